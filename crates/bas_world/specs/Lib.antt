@@ -1,0 +1,3 @@
+pub mod Count
+pub mod Faults
+pub mod Files
