@@ -1,6 +1,7 @@
-ghost use Rattle.std.specs.Prelude.{◌≡◌, ◌≤◌, length};
+ghost use Rattle.std.specs.Prelude.{◌≡◌, ◌≤◌, length, IsTrue};
 
-use crate::text::{FILE_NAME_BYTES, is_file_name, padded};
+use crate::text;
+use crate::text::{FILE_NAME_BYTES, padded};
 use std::marker::Model;
 
 /// The bytes are no file name.
@@ -29,13 +30,13 @@ impl Model for FileName {
 
 impl FileName {
     ghost use Rattle.std.specs.Result.{OkIff};
-    ghost use Rattle.bas_base.specs.Names.{IsFileName};
+    ghost use Rattle.bas_base.specs.Names.{is_file_name};
 
     /// The file name of these bytes, or `BadName` where they are none. Case is kept.
     pub fn of(text: &[u8]) -> Result<FileName, BadName>
-        ensures { OkIff result (IsFileName text.now) text.now }
+        ensures { OkIff result (IsTrue (is_file_name text.now)) text.now }
     {
-        if is_file_name(text) {
+        if text::is_file_name(text) {
             Ok(FileName {
                 buffer: padded(text),
                 count: text.len(),

@@ -1,6 +1,7 @@
-ghost use Rattle.std.specs.Prelude.{◌≡◌, ◌≤◌, length};
+ghost use Rattle.std.specs.Prelude.{◌≡◌, ◌≤◌, length, if◌then◌else◌};
 
-use crate::text::{NAME_BYTES, is_name, padded};
+use crate::text;
+use crate::text::{NAME_BYTES, padded};
 use std::marker::Model;
 
 /// A name in capitals: a letter, then letters, digits and `_`, then perhaps `$`; at most 31 bytes.
@@ -24,16 +25,15 @@ impl Model for Name {
 }
 
 impl Name {
-    ghost use Rattle.std.specs.Option.{SomeIff};
     ghost use Rattle.std.specs.Str.{str_to_ascii_uppercase};
-    ghost use Rattle.bas_base.specs.Names.{IsName};
+    ghost use Rattle.bas_base.specs.Names.{is_name};
 
     /// The name that the text spells, or `None` where it spells none. Capitals are kept in place
     /// of small letters.
     pub fn of(text: &[u8]) -> Option<Name>
-        ensures { SomeIff result (IsName text.now) (str_to_ascii_uppercase text.now) }
+        ensures { result ≡ (if is_name text.now then Some (str_to_ascii_uppercase text.now) else None) }
     {
-        if is_name(text) {
+        if text::is_name(text) {
             let mut buffer: [u8; NAME_BYTES] = padded(text);
             buffer[..text.len()].make_ascii_uppercase();
             Some(Name {
