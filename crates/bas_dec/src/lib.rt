@@ -1,0 +1,21 @@
+// Decimal numbers of a sign, up to 38 digits and up to 18 places behind the point.
+// Each operation gives exactly the value that its definition in specs/ has over whole numbers
+// without bound, and each fault exactly where that definition has it.
+// A number has one form: two numbers of one value are equal.
+// Bodies use 128-bit words, checked products and single divisions.
+#![tactic(auto)]
+
+mod fault;
+mod number;
+mod types;
+mod words;
+
+pub use fault::DecFault;
+pub use number::Dec;
+pub use types::{FixType, NumType};
+
+/// The most places that a number has behind its point.
+pub const PLACES: u8 = 18;
+
+/// The fewest places that a product, a quotient or a root is computed to.
+pub const SHORT: u8 = 18;
