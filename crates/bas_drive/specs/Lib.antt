@@ -1,0 +1,5 @@
+pub mod Bytes
+pub mod Form
+pub mod Meaning
+pub mod Report
+pub mod Answer
