@@ -2,4 +2,5 @@ pub mod Bytes
 pub mod Form
 pub mod Meaning
 pub mod Report
+pub mod Took
 pub mod Answer

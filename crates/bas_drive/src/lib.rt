@@ -9,5 +9,6 @@ mod ending;
 mod program;
 mod status;
 mod words;
+mod write;
 
 pub use status::Status;

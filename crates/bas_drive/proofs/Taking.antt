@@ -1,0 +1,47 @@
+-- What a sink took in two steps.
+use Rattle.std.proofs.Common.{◌≡◌, ℕ, List, [], ◌++◌, Option, Some, None, length, take, drop, ◌-◌, refl, sym, ap, subst, ◌∙◌, append_assoc, append-nil}
+use Rattle.std.proofs.lemmas.List.{take-append-drop, take_rest}
+use Rattle.std.specs.Option.{option_map}
+use Rattle.bas_drive.specs.Took.{TookAll, TookPrefix}
+
+-- a part of the text was sent and taken, and the rest is left
+pub record Sending (before now : Option (List ℕ)) (text left : List ℕ) : Type 0 where
+  pub sent : List ℕ
+  pub whole : sent ++ left ≡ text
+  pub took : TookAll before now sent
+
+-- nothing was taken
+pub TookAll-none : (before : Option (List ℕ)) → TookAll before before []
+TookAll-none None = refl
+TookAll-none (Some taken) = ap (λ t. Some t) (sym (append-nil taken))
+
+-- first one text and then another
+pub TookAll-then : (before middle now : Option (List ℕ)) (first second : List ℕ) → TookAll before middle first → TookAll middle now second → TookAll before now (first ++ second)
+TookAll-then before middle now first second one two =
+    let after_one : now ≡ option_map (λ taken. taken ++ second) (option_map (λ taken. taken ++ first) before) = two ∙ ap (λ m. option_map (λ taken. taken ++ second) m) one in
+    after_one ∙ joined before
+  where
+    joined : (before : Option (List ℕ)) → option_map (λ taken. taken ++ second) (option_map (λ taken. taken ++ first) before) ≡ option_map (λ taken. taken ++ (first ++ second)) before
+    joined None = refl
+    joined (Some taken) = ap (λ t. Some t) (append_assoc taken first second)
+
+-- the sink took some more of what is left
+pub Sending-more :
+    (before middle now : Option (List ℕ)) (text left : List ℕ) (count : ℕ) →
+    Sending before middle text left → TookAll middle now (take count left) → Sending before now text (drop count left)
+Sending-more before middle now text left count so_far more = record {
+    sent = so_far.sent ++ take count left;
+    whole = append_assoc so_far.sent (take count left) (drop count left) ∙ (ap (λ r. so_far.sent ++ r) (take-append-drop count left) ∙ so_far.whole);
+    took = TookAll-then before middle now so_far.sent (take count left) so_far.took more
+  }
+
+-- the same, with what is left as a slice's range from count on
+pub Sending-range :
+    (before middle now : Option (List ℕ)) (text left : List ℕ) (count : ℕ) →
+    Sending before middle text left → TookAll middle now (take count left) → Sending before now text (take (length left - count) (drop count left))
+Sending-range before middle now text left count so_far more =
+    subst (Sending before now text) (sym (take_rest left count)) (Sending-more before middle now text left count so_far more)
+
+-- nothing is sent yet
+pub Sending-none : (before : Option (List ℕ)) (text : List ℕ) → Sending before before text text
+Sending-none before text = record { sent = []; whole = refl; took = TookAll-none before }
