@@ -1,0 +1,2 @@
+//! The trees of the line grammar.
+#![tactic(auto)]
