@@ -6,6 +6,7 @@
 #![tactic(auto)]
 
 mod ending;
+mod file;
 mod program;
 mod status;
 mod words;
