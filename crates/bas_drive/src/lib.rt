@@ -9,6 +9,7 @@ mod ending;
 mod file;
 mod program;
 mod status;
+mod step;
 mod words;
 mod write;
 
