@@ -1,6 +1,6 @@
 -- What a sink took in two steps.
 use Rattle.std.proofs.Common.{◌≡◌, ℕ, List, [], ◌++◌, Option, Some, None, length, take, drop, ◌-◌, refl, sym, ap, subst, ◌∙◌, append_assoc, append-nil}
-use Rattle.std.proofs.lemmas.List.{take-append-drop, take_rest}
+use Rattle.std.proofs.lemmas.List.{take-append-drop, take_rest, take_at}
 use Rattle.std.specs.Option.{option_map}
 use Rattle.bas_drive.specs.Took.{TookAll, TookPrefix}
 
@@ -45,3 +45,26 @@ Sending-range before middle now text left count so_far more =
 -- nothing is sent yet
 pub Sending-none : (before : Option (List ℕ)) (text : List ℕ) → Sending before before text text
 Sending-none before text = record { sent = []; whole = refl; took = TookAll-none before }
+
+-- a text of which some was taken is the front of a longer one
+pub TookPrefix-front : (before now : Option (List ℕ)) (text more : List ℕ) → TookPrefix before now text → TookPrefix before now (text ++ more)
+TookPrefix-front before now text more some = record {
+    part = some.part;
+    rest = some.rest ++ more;
+    whole = sym (append_assoc some.part some.rest more) ∙ ap (λ t. t ++ more) some.whole;
+    took = some.took
+  }
+
+-- first all of one text, and then some of another
+pub TookPrefix-then :
+    (before middle now : Option (List ℕ)) (first second : List ℕ) → TookAll before middle first → TookPrefix middle now second → TookPrefix before now (first ++ second)
+TookPrefix-then before middle now first second all some = record {
+    part = first ++ some.part;
+    rest = some.rest;
+    whole = append_assoc first some.part some.rest ∙ ap (λ t. first ++ t) some.whole;
+    took = TookAll-then before middle now first some.part all some.took
+  }
+
+-- the front of a buffer that begins with a text
+pub text_at : (count : ℕ) (text buffer rest : List ℕ) → count ≡ length text → buffer ≡ text ++ rest → take count buffer ≡ text
+text_at count text buffer rest is_count is_buffer = ap (λ b. take count b) is_buffer ∙ take_at text rest count (sym is_count)

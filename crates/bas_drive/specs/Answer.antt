@@ -6,7 +6,7 @@ use Rattle.bas_base.specs.Names.{is_file_name}
 use Rattle.bas_world.specs.Files.{Files}
 use Rattle.bas_drive.specs.Bytes.{same_text}
 use Rattle.bas_drive.specs.Form.{program_of}
-use Rattle.bas_drive.specs.Meaning.{Outcome, meaning_of}
+use Rattle.bas_drive.specs.Meaning.{Outcome, silent, meaning_of}
 use Rattle.bas_drive.specs.declared.program.NumItem.{NumItem}
 use Rattle.bas_drive.specs.declared.words.Command.{Command}
 use Rattle.bas_drive.specs.declared.words.Command.TheVariants.{Go}
@@ -22,23 +22,19 @@ abbrev pub command_of : List (List ℕ) → Option Command
 command_of (verb ∷ name ∷ []) = if same_text verb (codes "go") && is_source_name name then Some (Go name) else None
 command_of _ = None
 
--- an answer without output
-abbrev pub refusal : Ending → Outcome
-refusal ending = record { output = []; ending = ending }
-
 -- the answer to `go` for a file that is a program or is none
 abbrev pub program_answer : List ℕ → Option (List NumItem) → Outcome
-program_answer name None = refusal (Refused name)
+program_answer name None = silent (Refused name)
 program_answer name (Some program) = meaning_of program
 
 -- the answer to `go` for a file that is there or is not
 abbrev pub file_answer : List ℕ → Option (List ℕ) → Outcome
-file_answer name None = refusal (Missing name)
+file_answer name None = silent (Missing name)
 file_answer name (Some bytes) = program_answer name (program_of bytes)
 
 -- the answer to a command
 abbrev pub command_answer : Option Command → Files → Outcome
-command_answer None files = refusal Usage
+command_answer None files = silent Usage
 command_answer (Some (Go name)) files = file_answer name (get files name)
 
 -- the answer to the words: what is printed, and how the command ends

@@ -2,5 +2,6 @@ pub mod Bytes
 pub mod Form
 pub mod Meaning
 pub mod Report
+pub mod Run
 pub mod Took
 pub mod Answer

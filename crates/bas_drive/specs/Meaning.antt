@@ -14,13 +14,17 @@ use Rattle.bas_drive.specs.declared.ending.Ending.{Ending}
 use Rattle.bas_drive.specs.declared.ending.Ending.TheVariants.{Ended, Stopped}
 use Rattle.bas_drive.specs.declared.program.NumItem.{NumItem}
 
+-- the value of a variable that was not set: 0
+abbrev pub unset : Number
+unset = record { coefficient = pos 0; scale = 0 }
+
 -- the value of each variable, by its name
 abbrev pub Variables : Type 0
 Variables = List ℕ → Number
 
 -- every variable is 0 at the start
 abbrev pub all_zero : Variables
-all_zero name = record { coefficient = pos 0; scale = 0 }
+all_zero name = unset
 
 -- the variables with another value for one of them
 abbrev pub with_value : Variables → List ℕ → Number → Variables
@@ -39,7 +43,7 @@ value_after variables x (term ∷ terms) =
 
 -- the value of a sum: a minus in front negates its first operand alone
 abbrev pub value_of : Variables → List Term → Result Number DecFault
-value_of variables [] = Ok (record { coefficient = pos 0; scale = 0 })
+value_of variables [] = Ok unset
 value_of variables (term ∷ terms) =
     let x = operand_value variables term.operand in
     value_after variables (if term.minus then negated x else x) terms
@@ -49,32 +53,36 @@ pub record Outcome : Type 0 where
   pub output : List ℕ
   pub ending : Ending
 
--- the end at END
-abbrev pub ended : Outcome
-ended = record { output = []; ending = Ended }
+-- an ending without output
+abbrev pub silent : Ending → Outcome
+silent ending = record { output = []; ending = ending }
 
 -- a stop by the exception of an overflow at a line
-abbrev pub overflowed : ℕ → Outcome
-overflowed line = record { output = []; ending = Stopped (record { ex = 1002; line = line; unit = codes "MAIN" }) }
+abbrev pub overflow_at : ℕ → Ending
+overflow_at line = Stopped (record { ex = 1002; line = line; unit = codes "MAIN" })
 
 -- the outcome that goes on from a value, or the stop at the line where there is none
 abbrev pub with_result : ℕ → Result Number DecFault → (Number → Outcome) → Outcome
 with_result line (Ok x) next = next x
-with_result line (Err fault) next = overflowed line
+with_result line (Err fault) next = silent (overflow_at line)
 
--- a text and LF, and then what the rest prints
+-- a text, and then what the rest prints
 abbrev pub printing : List ℕ → Outcome → Outcome
-printing text rest = record { output = text ++ 10 ∷ rest.output; ending = rest.ending }
+printing text rest = record { output = text ++ rest.output; ending = rest.ending }
+
+-- what PRINT prints of a number: its text and LF
+abbrev pub print_line : Number → List ℕ
+print_line x = text_of x ++ 10 ∷ []
 
 -- the outcome of a line and what follows it
 abbrev pub outcome_at : ℕ → Item → Variables → (Variables → Outcome) → Outcome
 outcome_at line (Let name sum) variables next = with_result line (value_of variables sum) (λ x. next (with_value variables name x))
-outcome_at line (Print sum) variables next = with_result line (value_of variables sum) (λ x. printing (text_of x) (next variables))
-outcome_at line End variables next = ended
+outcome_at line (Print sum) variables next = with_result line (value_of variables sum) (λ x. printing (print_line x) (next variables))
+outcome_at line End variables next = silent Ended
 
 -- the outcome of the lines that are left
 unfoldable pub outcome_of : List NumItem → Variables → Outcome
-outcome_of [] variables = ended
+outcome_of [] variables = silent Ended
 outcome_of (line ∷ lines) variables = outcome_at line.line line.item variables (λ v. outcome_of lines v)
 
 -- the meaning of a program

@@ -6,8 +6,10 @@
 #![tactic(auto)]
 
 mod ending;
+mod file;
 mod program;
 mod status;
+mod step;
 mod words;
 mod write;
 
