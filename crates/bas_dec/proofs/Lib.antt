@@ -1,3 +1,6 @@
 pub mod Powers
 pub mod Lowest
 pub mod Bounds
+pub mod DigitLemmas
+pub mod WideLemmas
+pub mod ValueLemmas

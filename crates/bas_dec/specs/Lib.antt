@@ -1,3 +1,5 @@
 pub mod Fixed
 pub mod Number
 pub mod Arithmetic
+pub mod NumeralForm
+pub mod Numeral

@@ -7,11 +7,14 @@
 
 mod fault;
 mod number;
+mod numeral;
 mod types;
+mod wide;
 mod words;
 
 pub use fault::DecFault;
 pub use number::Dec;
+pub use numeral::{Numeral, read_numeral};
 pub use types::{FixType, NumType};
 
 /// The most places that a number has behind its point.
