@@ -4,3 +4,4 @@ pub mod Bounds
 pub mod DigitLemmas
 pub mod WideLemmas
 pub mod ValueLemmas
+pub mod TextLemmas

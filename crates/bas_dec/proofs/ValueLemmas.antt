@@ -5,8 +5,7 @@ use Rattle.std.proofs.lemmas.Nat.{pow-add, div-mul-add}
 use Rattle.std.proofs.lemmas.Bool.{cases_lt}
 use Rattle.std.proofs.lemmas.Bool.Decides.{nat_tests}
 use Rattle.std.proofs.lemmas.List.Sums.{fold-append}
-use Rattle.bas_dec.specs.Number.{Number, low, number_of, stripped, rounded}
-use Rattle.bas_dec.specs.NumeralForm.{Parts}
+use Rattle.bas_dec.specs.Number.{low, number_of, rounded}
 use Rattle.bas_dec.specs.Numeral.{nearest_number, value_or_too_large, written_behind, number_written, answer_of, is_too_long}
 use Rattle.bas_dec.specs.declared.TheConstants.{PLACES}
 use Rattle.bas_dec.specs.declared.numeral.Numeral.TheVariants.{TooLarge}

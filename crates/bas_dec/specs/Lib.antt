@@ -3,3 +3,4 @@ pub mod Number
 pub mod Arithmetic
 pub mod NumeralForm
 pub mod Numeral
+pub mod Text

@@ -8,6 +8,7 @@
 mod fault;
 mod number;
 mod numeral;
+mod text;
 mod types;
 mod wide;
 mod words;

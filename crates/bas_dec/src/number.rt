@@ -28,7 +28,7 @@ impl Model for Dec {
 }
 
 impl Dec {
-    ghost use Rattle.bas_dec.specs.Number.{low, number_of, signed as signed_of};
+    ghost use Rattle.bas_dec.specs.Number.{IsNumber, low, number_of, signed as signed_of};
     ghost use Rattle.bas_dec.specs.Arithmetic.{number_at, aligned as aligned_of};
 
     /// The number `c / 10^s`, or `None` where no number has that value.
@@ -63,6 +63,7 @@ impl Dec {
     pub fn parts(self) -> (i128, u8)
         ensures coefficient { result.0 ≡ self.coefficient }
         ensures scale { result.1 ≡ self.scale }
+        ensures number { IsNumber self }
     {
         (self.coefficient, self.scale)
     }

@@ -1,4 +1,4 @@
-use Rattle.std.proofs.Common.{◌≤◌, ◌^◌, ◌∙◌, ◌≡◌, ap, sym, arith, pos, ◌-◌}
+use Rattle.std.proofs.Common.{◌≤◌, ◌^◌, ◌∙◌, ap, sym, arith, pos, ◌-◌}
 use Rattle.bas_dec.specs.Number.{low}
 use Rattle.bas_dec.proofs.ValueLemmas.{low_pop, low_beyond}
 use Rattle.bas_dec.proofs.numeral.number.Goals as goal

@@ -1,5 +1,4 @@
-use Rattle.std.proofs.Common.{◌*◌, ◌^◌, ◌≡◌, ◌<◌, ◌≤◌, ◌∙◌, ap}
-use Rattle.bas_dec.specs.Numeral.{nearest_number, value_or_too_large}
+use Rattle.std.proofs.Common.{◌*◌, ◌^◌, ◌<◌, ◌≤◌}
 use Rattle.bas_dec.proofs.ValueLemmas.{nearest_beyond}
 use Rattle.bas_dec.proofs.numeral.shifted.Goals as goal
 
