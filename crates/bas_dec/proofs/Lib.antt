@@ -5,3 +5,4 @@ pub mod DigitLemmas
 pub mod WideLemmas
 pub mod ValueLemmas
 pub mod TextLemmas
+pub mod NumeralLemmas

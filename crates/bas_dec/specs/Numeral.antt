@@ -77,7 +77,7 @@ answer_or_none None = NotNumeral
 answer_or_none (Some p) = answer_of p
 
 -- the answer to a text
-abbrev pub numeral_of : List ℕ → Numeral
+unfoldable pub numeral_of : List ℕ → Numeral
 numeral_of text = answer_or_none (parts_of text)
 
 -- the answer is that to the parts of the text, and NotNumeral where it has no parts

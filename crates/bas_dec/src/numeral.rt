@@ -27,7 +27,12 @@ pub enum Numeral {
     NotNumeral,
 }
 
-/// The answer to `text` as a numeral.
+/// What `text` is as a numeral.
+///
+/// A numeral is digits, perhaps with a point among them, before or behind them, and perhaps an
+/// exponent: an `E` or `e`, perhaps a sign, and digits. Its value is rounded to `PLACES` places,
+/// to nearest, and away from zero at a half.
+#[tactic(auto, unfolding(crate::specs::Numeral::numeral_of))]
 pub fn read_numeral(text: &[u8]) -> Numeral
     ensures { result ≡ numeral_of text.now }
 {
