@@ -6,3 +6,4 @@ pub mod WideLemmas
 pub mod ValueLemmas
 pub mod TextLemmas
 pub mod NumeralLemmas
+pub mod AnswerLemmas

@@ -1,5 +1,5 @@
 -- A text has the form of a numeral with certain parts exactly where the reader finds these parts.
-use Rattle.std.proofs.Common.{◌≡◌, ◌≢◌, ℕ, zero, suc, ◌+◌, ◌<◌, ◌≤◌, ◌==◌, ◌⊎◌, arith, refl, ap, ◌∙◌, sym, subst, inl, inr, Bool, true, false, List, [], ◌∷◌, ◌++◌, length, take, drop, append_assoc, Option, Some, None}
+use Rattle.std.proofs.Common.{◌≡◌, ℕ, suc, ◌+◌, ◌<◌, ◌≤◌, ◌==◌, arith, refl, ap, ◌∙◌, sym, subst, inl, inr, Bool, true, false, List, [], ◌∷◌, ◌++◌, length, append_assoc, Option, Some, None}
 use Rattle.std.specs.Prelude.{◌&&◌, ◌||◌, nat_lt}
 use Rattle.std.specs.Char.{is_ascii_digit}
 use Rattle.std.specs.List.{prefix_len, take_while}
@@ -91,9 +91,9 @@ sign_found [] = ([], refl, no_sign)
 sign_found (c ∷ cs) = elim (cases_Bool (c == 45)) [
   | inl is_minus ↦ rw is_minus (c ∷ [], refl, rw (eqb-true c 45 is_minus) minus)
   | inr no_minus ↦ elim (cases_Bool (c == 43)) [
-      | inl is_plus ↦ rw (no_minus, is_plus) (c ∷ [], refl, rw (eqb-true c 43 is_plus) plus)
-      | inr no_plus ↦ rw (no_minus, no_plus) ([], refl, no_sign)
-    ]
+    | inl is_plus ↦ rw (no_minus, is_plus) (c ∷ [], refl, rw (eqb-true c 43 is_plus) plus)
+    | inr no_plus ↦ rw (no_minus, no_plus) ([], refl, no_sign)
+  ]
 ]
 
 digits_found : (text : List ℕ) → is_digits text ≡ true → IsDigits text
@@ -127,11 +127,11 @@ joined : (whole fraction : List ℕ) (e : Option (Bool × List ℕ)) (p : Parts)
 joined whole fraction None p h = absurd (cc)
 joined whole fraction (Some e) p h = elim (cases_Bool (nat_lt 0 (length whole + length fraction))) [
   | inl test ↦ record {
-      exponent = e;
-      found = refl;
-      some = grind (arith, nat_tests);
-      parts = let taken : Some (record { whole = whole; fraction = fraction; negative = e.0; exponent = e.1 }) ≡ Some p = rw test at h in cc;
-    }
+    exponent = e;
+    found = refl;
+    some = grind (arith, nat_tests);
+    parts = let taken : Some (record { whole = whole; fraction = fraction; negative = e.0; exponent = e.1 }) ≡ Some p = rw test at h in cc;
+  }
   | inr test ↦ let taken : None ≡ Some p = rw test at h in absurd (cc)
 ]
 

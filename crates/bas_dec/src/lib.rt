@@ -15,7 +15,9 @@ mod words;
 
 pub use fault::DecFault;
 pub use number::Dec;
-pub use numeral::{Numeral, read_numeral};
+pub use numeral::{
+    Numeral, form_gives_answer, form_has_one_reading, not_numeral_without_form, read_numeral,
+};
 pub use types::{FixType, NumType};
 
 /// The most places that a number has behind its point.

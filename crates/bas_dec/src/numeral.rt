@@ -1,14 +1,17 @@
 // Numerals: which bytes are one, and what number it is.
+mod laws;
+
 ghost use Rattle.std.specs.Prelude.{◌≡◌, ℕ, ◌+◌, ◌-◌, ◌*◌, ◌/◌, ◌%◌, ◌^◌, ◌<◌, ◌≤◌, pos, List, length, ◌++◌, MatchOption, Some, None, if◌then◌else◌};
 ghost use Rattle.std.specs.List.{prefix_len, take_while};
 ghost use Rattle.std.specs.Char.{is_ascii_digit};
 ghost use Rattle.bas_dec.specs.Number.{low};
 ghost use Rattle.bas_dec.specs.NumeralForm.{AreDigits};
-ghost use Rattle.bas_dec.specs.Numeral.{number_written, nearest_number, answer_of, value_or_too_large, behind_digits, fraction_of, is_digits as is_digits_of, sign_of, exponent_of, numeral_of};
+ghost use Rattle.bas_dec.specs.Numeral.{number_written, nearest_number, answer_of, value_or_too_large, behind_digits, fraction_of, is_digits as is_digits_of, sign_of, exponent_of, numeral_of, IsAnswer};
 
 use crate::PLACES;
 use crate::number::Dec;
 use crate::wide::Wide;
+pub use laws::{form_gives_answer, form_has_one_reading, not_numeral_without_form};
 
 /// The most digits that the mantissa of a numeral has, zeros at its front too.
 pub const MANTISSA_DIGITS: usize = 60;
@@ -32,8 +35,16 @@ pub enum Numeral {
 /// A numeral is digits, perhaps with a point among them, before or behind them, and perhaps an
 /// exponent: an `E` or `e`, perhaps a sign, and digits. Its value is rounded to `PLACES` places,
 /// to nearest, and away from zero at a half.
-#[tactic(auto, unfolding(crate::specs::Numeral::numeral_of))]
 pub fn read_numeral(text: &[u8]) -> Numeral
+    ensures answer { result ≡ numeral_of text.now }
+    ensures form { IsAnswer text.now result }
+{
+    answer_to(text)
+}
+
+/// The answer to `text`.
+#[tactic(auto, unfolding(crate::specs::Numeral::numeral_of))]
+fn answer_to(text: &[u8]) -> Numeral
     ensures { result ≡ numeral_of text.now }
 {
     let (whole, rest) = split_digits(text);
