@@ -7,3 +7,4 @@ pub mod ValueLemmas
 pub mod TextLemmas
 pub mod NumeralLemmas
 pub mod AnswerLemmas
+pub mod ReadBackLemmas

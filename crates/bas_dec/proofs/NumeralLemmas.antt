@@ -145,7 +145,7 @@ no_point_found whole rest p w h =
     let j : Joined whole [] (exponent_of rest) p = joined whole [] (exponent_of rest) p h in
     formed (whole ++ rest) whole rest whole [] j.exponent p refl (no_point (record { some = omega (arith, j.some); digits = w })) (exponent_found rest j.exponent j.found) j.parts
 
-mantissa_found : (whole fraction : List ℕ) → AreDigits whole → AreDigits fraction → 0 < length whole + length fraction → IsMantissa (whole ++ (46 ∷ fraction)) whole fraction
+pub mantissa_found : (whole fraction : List ℕ) → AreDigits whole → AreDigits fraction → 0 < length whole + length fraction → IsMantissa (whole ++ (46 ∷ fraction)) whole fraction
 mantissa_found [] fraction w f some = point_first (record { some = omega arith; digits = f })
 mantissa_found (d ∷ ds) fraction w f some = point_behind (record { some = omega arith; digits = w }) f
 

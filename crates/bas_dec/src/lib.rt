@@ -18,6 +18,7 @@ pub use number::Dec;
 pub use numeral::{
     Numeral, form_gives_answer, form_has_one_reading, not_numeral_without_form, read_numeral,
 };
+pub use text::printed_number_reads_back;
 pub use types::{FixType, NumType};
 
 /// The most places that a number has behind its point.

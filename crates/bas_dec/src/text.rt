@@ -1,9 +1,12 @@
 // The text of a printed number, which is made from its end.
+mod laws;
+
 ghost use Rattle.std.specs.Prelude.{◌≡◌, ℕ, ◌+◌, ◌-◌, ◌*◌, ◌/◌, ◌%◌, ◌^◌, ◌<◌, ◌≤◌, ℤ, List, [], ◌∷◌, ◌++◌, length, drop};
 ghost use Rattle.std.specs.Fmt.{decimal};
 ghost use Rattle.bas_dec.specs.Text.{last_digits, whole_text, fraction_text, size_text, sign_byte};
 
 use crate::number::Dec;
+pub use laws::printed_number_reads_back;
 use std::marker::Model;
 
 /// How many bytes a text may have.
