@@ -113,8 +113,9 @@ impl Text {
 
     /// Copies the bytes to the front of `out`, and gives their number.
     fn copy_to(&self, out: &mut [u8; ROOM]) -> usize
-        ensures written { out.new ≡ self.now ++ drop (length self.now) out.old }
         ensures length { result ≡ length self.now }
+        ensures bound { result ≤ 64 }
+        ensures text { out.new ≡ self.now ++ drop (length self.now) out.old }
     {
         let count = ROOM - self.start;
         out[..count].copy_from_slice(&self.bytes[self.start..]);
@@ -138,7 +139,8 @@ impl Dec {
     /// a number below 1, and there is never an exponent.
     pub fn print_into(self, out: &mut [u8; 64]) -> usize
         ensures length { result ≡ length (text_of self) }
-        ensures written { out.new ≡ text_of self ++ drop result out.old }
+        ensures bound { result ≤ 64 }
+        ensures text { out.new ≡ text_of self ++ drop result out.old }
     {
         let (coefficient, scale) = self.parts();
         let mut text = Text::of_size(coefficient.unsigned_abs(), scale);

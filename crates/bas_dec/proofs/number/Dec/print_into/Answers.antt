@@ -19,5 +19,5 @@ made c =
 pub returns-clause-length : goal.returns-clause-length
 returns-clause-length c = c.copy_to.ensures.length ∙ ap length (made c)
 
-pub returns-clause-written : goal.returns-clause-written
-returns-clause-written c = rw (c.copy_to.ensures.written, c.copy_to.ensures.length, made c) refl
+pub returns-clause-text : goal.returns-clause-text
+returns-clause-text c = rw (c.copy_to.ensures.text, c.copy_to.ensures.length, made c) refl
