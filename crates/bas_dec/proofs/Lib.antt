@@ -1,5 +1,5 @@
+pub mod Integers
 pub mod Powers
-pub mod Lowest
 pub mod Bounds
 pub mod DigitLemmas
 pub mod WideLemmas
@@ -8,3 +8,12 @@ pub mod TextLemmas
 pub mod NumeralLemmas
 pub mod AnswerLemmas
 pub mod ReadBackLemmas
+pub mod Lowest
+pub mod Low
+pub mod Values
+pub mod Floors
+pub mod Remainders
+pub mod Rounding
+pub mod Order
+pub mod Products
+pub mod Root
