@@ -1,0 +1,19 @@
+// Laws of numbers: each holds for all numbers, and its function does nothing.
+ghost use Rattle.std.specs.Prelude.{◌≡◌, ℕ, ◌^◌, ◌<◌, ◌↔◌, ℤ, pos, ◌*ℤ◌, Some};
+ghost use Rattle.bas_dec.specs.Number.{Number, IsNumber, low};
+ghost use Rattle.bas_dec.specs.Fraction.{Fraction, SameValue, value_of, number_equal_to};
+
+/// `low c s` is a number exactly where it is in lowest form and has the value `c / 10^s`.
+pub fn low_finds_the_number()
+    ensures { (c : ℤ) (s : ℕ) (x : Number) → (low c s ≡ Some x) ↔ (IsNumber x × (x.coefficient *ℤ pos (10 ^ s) ≡ c *ℤ pos (10 ^ x.scale))) }
+{}
+
+/// Two numbers of one value are the same.
+pub fn numbers_have_one_form()
+    ensures { (x y : Number) → IsNumber x → IsNumber y → x.coefficient *ℤ pos (10 ^ y.scale) ≡ y.coefficient *ℤ pos (10 ^ x.scale) → x ≡ y }
+{}
+
+/// `number_equal_to` is a number exactly where it has the value of the fraction.
+pub fn fractions_have_one_number()
+    ensures { (a : Fraction) (x : Number) → 0 < a.denominator → (number_equal_to a ≡ Some x) ↔ (IsNumber x × SameValue (value_of x) a) }
+{}
