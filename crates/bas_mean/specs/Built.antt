@@ -1,0 +1,139 @@
+-- Which programs have built constructs alone. Nothing is claimed of the others.
+use Rattle.std.specs.Prelude.{ℕ, Bool, true, false, not, ◌&&◌, ◌||◌, List, [], ◌∷◌, Option, Some, None, nat_eq, bytes_eq, codes}
+use Rattle.std.specs.List.{ends_with}
+use Rattle.bas_ast.specs.Tree.{TermSign, Add, Subtract, Join, Expr, Sum, Terms, NoTerms, MoreTerms, Term, Product, Factors, NoFactors, MoreFactors, Factor, Power, Primaries, NoPrimaries, MorePrimaries, Primary, Numeric, Group, Named, Args, NoArgs, MoreArgs, Cond, AnyOf, Conjs, NoConjs, MoreConjs, Conj, AllOf, Tests, NoTests, MoreTests, Test, Not, CondGroup, Compare, Target, Variable, NoExprs, Sep, Pitem, Printed, Plain, Let, Print, Goto, ExitDo, Alone, Loopc, While, Until, Part, If, Elseif, Else, EndIf, Do, Loop, End, LineItem, OfSimple, OfPart, NumLine, Stmt, Single, Nest, Sections, NoSections, MoreSections, Block, NoStmts, MoreStmts, SourceUnit, ProgramUnit}
+
+-- the names of the supplied functions
+abbrev pub supplied_names : List (List ℕ)
+supplied_names =
+    codes "ABS" ∷ codes "SGN" ∷ codes "INT" ∷ codes "IP" ∷ codes "FP" ∷ codes "CEIL" ∷ codes "MOD" ∷ codes "REMAINDER" ∷ codes "ROUND"
+    ∷ codes "TRUNCATE" ∷ codes "SQR" ∷ codes "MAX" ∷ codes "MIN" ∷ codes "MAXNUM" ∷ codes "RND" ∷ codes "EXTYPE" ∷ codes "EXLINE"
+    ∷ codes "LBOUND" ∷ codes "UBOUND" ∷ codes "LEN" ∷ codes "ORD" ∷ codes "CHR$" ∷ codes "POS" ∷ codes "STR$" ∷ codes "VAL"
+    ∷ codes "UCASE$" ∷ codes "LCASE$" ∷ codes "LTRIM$" ∷ codes "RTRIM$" ∷ codes "REPEAT$" ∷ []
+
+abbrev pub is_among : List ℕ → List (List ℕ) → Bool
+is_among name [] = false
+is_among name (other ∷ others) = bytes_eq name other || is_among name others
+
+-- a numeric variable's name: it has no `$` and is no supplied function's
+unfoldable pub is_numeric_name : List ℕ → Bool
+is_numeric_name name = not (ends_with nat_eq name (36 ∷ [])) && not (is_among name supplied_names)
+
+abbrev pub is_built_name : List ℕ → Args → Bool
+is_built_name name NoArgs = is_numeric_name name
+is_built_name name (MoreArgs a rest) = false
+
+abbrev pub is_built_sign : TermSign → Bool
+is_built_sign Add = true
+is_built_sign Subtract = true
+is_built_sign Join = false
+
+abbrev mutual
+  pub is_built_expr : Expr → Bool
+  is_built_expr (Sum sign first rest) = is_built_term first && are_built_terms rest
+
+  pub are_built_terms : Terms → Bool
+  are_built_terms NoTerms = true
+  are_built_terms (MoreTerms sign t rest) = is_built_sign sign && (is_built_term t && are_built_terms rest)
+
+  pub is_built_term : Term → Bool
+  is_built_term (Product first rest) = is_built_factor first && are_built_factors rest
+
+  pub are_built_factors : Factors → Bool
+  are_built_factors NoFactors = true
+  are_built_factors (MoreFactors sign f rest) = is_built_factor f && are_built_factors rest
+
+  pub is_built_factor : Factor → Bool
+  is_built_factor (Power base exponents) = is_built_primary base && are_built_primaries exponents
+
+  pub are_built_primaries : Primaries → Bool
+  are_built_primaries NoPrimaries = true
+  are_built_primaries (MorePrimaries p rest) = is_built_primary p && are_built_primaries rest
+
+  pub is_built_primary : Primary → Bool
+  is_built_primary (Numeric numeral) = true
+  is_built_primary (Group e) = is_built_expr e
+  is_built_primary (Named name args) = is_built_name name args
+  is_built_primary _ = false
+
+abbrev mutual
+  pub is_built_cond : Cond → Bool
+  is_built_cond (AnyOf first rest) = is_built_conj first && are_built_conjs rest
+
+  pub are_built_conjs : Conjs → Bool
+  are_built_conjs NoConjs = true
+  are_built_conjs (MoreConjs c rest) = is_built_conj c && are_built_conjs rest
+
+  pub is_built_conj : Conj → Bool
+  is_built_conj (AllOf first rest) = is_built_test first && are_built_tests rest
+
+  pub are_built_tests : Tests → Bool
+  are_built_tests NoTests = true
+  are_built_tests (MoreTests t rest) = is_built_test t && are_built_tests rest
+
+  pub is_built_test : Test → Bool
+  is_built_test (Not t) = is_built_test t
+  is_built_test (CondGroup c) = is_built_cond c
+  is_built_test (Compare a rel b) = is_built_expr a && is_built_expr b
+
+abbrev pub are_built_targets : List Target → Bool
+are_built_targets (Variable name NoExprs ∷ []) = is_numeric_name name
+are_built_targets _ = false
+
+abbrev pub is_built_list : Option Pitem → List (Sep × Option Pitem) → Bool
+is_built_list None [] = true
+is_built_list (Some (Printed e)) [] = is_built_expr e
+is_built_list _ _ = false
+
+abbrev pub is_built_plain : Plain → Bool
+is_built_plain (Let targets e) = are_built_targets targets && is_built_expr e
+is_built_plain (Print list) = is_built_list list.first list.rest
+is_built_plain (Goto l) = true
+is_built_plain ExitDo = true
+is_built_plain _ = false
+
+abbrev pub is_built_loopc : Option Loopc → Bool
+is_built_loopc None = true
+is_built_loopc (Some (While c)) = is_built_cond c
+is_built_loopc (Some (Until c)) = is_built_cond c
+
+abbrev pub is_built_part : Part → Bool
+is_built_part (If c) = is_built_cond c
+is_built_part (Elseif c) = is_built_cond c
+is_built_part Else = true
+is_built_part EndIf = true
+is_built_part (Do loopc) = is_built_loopc loopc
+is_built_part (Loop loopc) = is_built_loopc loopc
+is_built_part End = true
+is_built_part _ = false
+
+abbrev pub is_built_item : LineItem → Bool
+is_built_item (OfSimple (Alone plain)) = is_built_plain plain
+is_built_item (OfPart part) = is_built_part part
+is_built_item _ = false
+
+abbrev mutual
+  pub is_built_stmt : Stmt → Bool
+  is_built_stmt (Single head) = is_built_item head.item
+  is_built_stmt (Nest sections close) = are_built_sections sections && is_built_item close.item
+
+  pub are_built_sections : Sections → Bool
+  are_built_sections NoSections = true
+  are_built_sections (MoreSections head body rest) = is_built_item head.item && (is_built_block body && are_built_sections rest)
+
+  pub is_built_block : Block → Bool
+  is_built_block NoStmts = true
+  is_built_block (MoreStmts s rest) = is_built_stmt s && is_built_block rest
+
+abbrev pub is_none_line : Option NumLine → Bool
+is_none_line None = true
+is_none_line (Some l) = false
+
+abbrev pub is_built_unit : SourceUnit → Bool
+is_built_unit (ProgramUnit p) = is_none_line p.head && (is_built_block p.body && is_built_item p.close.item)
+is_built_unit _ = false
+
+-- one program without a PROGRAM line
+abbrev pub are_built : List SourceUnit → Bool
+are_built (u ∷ []) = is_built_unit u
+are_built _ = false

@@ -1,0 +1,14 @@
+pub mod World
+pub mod Printing
+pub mod Outcome
+pub mod Operators
+pub mod Place
+pub mod Expression
+pub mod Condition
+pub mod Line
+pub mod Simple
+pub mod Block
+pub mod Construct
+pub mod Meaning
+pub mod Built
+pub mod Programs
