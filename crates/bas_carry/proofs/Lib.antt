@@ -1,0 +1,11 @@
+pub mod Cells
+pub mod Steps
+pub mod Reach
+pub mod Laws
+pub mod Grows
+pub mod Numbers
+pub mod Tests
+pub mod Simple
+pub mod Rows
+pub mod Whole
+pub mod Theorem
