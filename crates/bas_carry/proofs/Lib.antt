@@ -9,3 +9,10 @@ pub mod Simple
 pub mod Rows
 pub mod Whole
 pub mod Theorem
+pub mod Lengths
+pub mod Stands
+pub mod Entries
+pub mod Targets
+pub mod Numbering
+pub mod Made
+pub mod Samples

@@ -5,3 +5,6 @@ pub mod Simples
 pub mod Constructs
 pub mod Carries
 pub mod Shown
+pub mod Slots
+pub mod Codes
+pub mod Tables

@@ -1,3 +1,4 @@
 pub mod State
 pub mod Guards
 pub mod Machine
+pub mod Images

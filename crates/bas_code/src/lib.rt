@@ -5,9 +5,11 @@
 #![tactic(auto)]
 
 mod body;
+mod examples;
 mod instr;
 
 pub use body::{BodyKind, Guard, Image, LineEntry, Proc};
+pub use examples::{jump_images_run, loop_image_runs, other_images_run};
 pub use instr::{
     ArithInstr, CompareInstr, Instr, JumpInstr, Place, PrintInstr, PushInstr, Relation, RunInstr,
     Space, StoreInstr, TERMINAL,

@@ -1,7 +1,7 @@
 -- Which programs have built constructs alone. Nothing is claimed of the others.
 use Rattle.std.specs.Prelude.{ℕ, Bool, true, false, not, ◌&&◌, ◌||◌, List, [], ◌∷◌, Option, Some, None, nat_eq, bytes_eq, codes}
 use Rattle.std.specs.List.{ends_with}
-use Rattle.bas_ast.specs.Tree.{TermSign, Add, Subtract, Join, Expr, Sum, Terms, NoTerms, MoreTerms, Term, Product, Factors, NoFactors, MoreFactors, Factor, Power, Primaries, NoPrimaries, MorePrimaries, Primary, Numeric, Group, Named, Args, NoArgs, MoreArgs, Cond, AnyOf, Conjs, NoConjs, MoreConjs, Conj, AllOf, Tests, NoTests, MoreTests, Test, Not, CondGroup, Compare, Target, Variable, NoExprs, Sep, Pitem, Printed, Plain, Let, Print, Goto, ExitDo, Alone, Loopc, While, Until, Part, If, Elseif, Else, EndIf, Do, Loop, End, LineItem, OfSimple, OfPart, NumLine, Stmt, Single, Nest, Sections, NoSections, MoreSections, Block, NoStmts, MoreStmts, SourceUnit, ProgramUnit}
+use Rattle.bas_ast.specs.Tree.{TermSign, Add, Subtract, Join, Expr, Sum, Terms, NoTerms, MoreTerms, Term, Product, Factors, NoFactors, MoreFactors, Factor, Power, Primaries, NoPrimaries, MorePrimaries, Primary, Numeric, Group, Named, Args, NoArgs, MoreArgs, Cond, AnyOf, Conjs, NoConjs, MoreConjs, Conj, AllOf, Tests, NoTests, MoreTests, Test, Not, CondGroup, Compare, Target, Variable, NoExprs, Sep, Pitem, Printed, Plain, Let, Print, Goto, ExitDo, Alone, Loopc, While, Until, If, Elseif, Else, EndIf, Do, Loop, End, LineItem, OfSimple, OfPart, NumLine, Stmt, Single, Nest, Sections, NoSections, MoreSections, Block, NoStmts, MoreStmts, SourceUnit, ProgramUnit}
 
 -- the names of the supplied functions
 abbrev pub supplied_names : List (List ℕ)
@@ -97,43 +97,55 @@ is_built_loopc None = true
 is_built_loopc (Some (While c)) = is_built_cond c
 is_built_loopc (Some (Until c)) = is_built_cond c
 
-abbrev pub is_built_part : Part → Bool
-is_built_part (If c) = is_built_cond c
-is_built_part (Elseif c) = is_built_cond c
-is_built_part Else = true
-is_built_part EndIf = true
-is_built_part (Do loopc) = is_built_loopc loopc
-is_built_part (Loop loopc) = is_built_loopc loopc
-is_built_part End = true
-is_built_part _ = false
+abbrev pub is_end_if : LineItem → Bool
+is_end_if (OfPart EndIf) = true
+is_end_if _ = false
 
-abbrev pub is_built_item : LineItem → Bool
-is_built_item (OfSimple (Alone plain)) = is_built_plain plain
-is_built_item (OfPart part) = is_built_part part
-is_built_item _ = false
+-- a line that stands alone
+abbrev pub is_built_single : LineItem → Bool
+is_built_single (OfSimple (Alone plain)) = is_built_plain plain
+is_built_single _ = false
+
+-- LOOP, which closes a DO
+abbrev pub is_built_loop : LineItem → Bool
+is_built_loop (OfPart (Loop loopc)) = is_built_loopc loopc
+is_built_loop _ = false
+
+-- the line of a section, with the line that closes its construct
+abbrev pub is_built_section : LineItem → (close : LineItem) → Bool
+is_built_section (OfPart (If c)) close = is_built_cond c && is_end_if close
+is_built_section (OfPart (Elseif c)) close = is_built_cond c && is_end_if close
+is_built_section (OfPart Else) close = is_end_if close
+is_built_section (OfPart (Do loopc)) close = is_built_loopc loopc && is_built_loop close
+is_built_section _ close = false
 
 abbrev mutual
   pub is_built_stmt : Stmt → Bool
-  is_built_stmt (Single head) = is_built_item head.item
-  is_built_stmt (Nest sections close) = are_built_sections sections && is_built_item close.item
+  is_built_stmt (Single head) = is_built_single head.item
+  is_built_stmt (Nest sections close) = are_built_sections sections close
 
-  pub are_built_sections : Sections → Bool
-  are_built_sections NoSections = true
-  are_built_sections (MoreSections head body rest) = is_built_item head.item && (is_built_block body && are_built_sections rest)
+  pub are_built_sections : Sections → (close : NumLine) → Bool
+  are_built_sections NoSections close = true
+  are_built_sections (MoreSections head body rest) close =
+      is_built_section head.item close.item && (is_built_block body && are_built_sections rest close)
 
   pub is_built_block : Block → Bool
   is_built_block NoStmts = true
   is_built_block (MoreStmts s rest) = is_built_stmt s && is_built_block rest
+
+abbrev pub is_end : LineItem → Bool
+is_end (OfPart End) = true
+is_end _ = false
 
 abbrev pub is_none_line : Option NumLine → Bool
 is_none_line None = true
 is_none_line (Some l) = false
 
 abbrev pub is_built_unit : SourceUnit → Bool
-is_built_unit (ProgramUnit p) = is_none_line p.head && (is_built_block p.body && is_built_item p.close.item)
+is_built_unit (ProgramUnit p) = is_none_line p.head && (is_built_block p.body && is_end p.close.item)
 is_built_unit _ = false
 
--- one program without a PROGRAM line
+-- one program without a PROGRAM line; its constructs are closed by their own lines
 abbrev pub are_built : List SourceUnit → Bool
 are_built (u ∷ []) = is_built_unit u
 are_built _ = false

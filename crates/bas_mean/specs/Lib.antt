@@ -12,3 +12,4 @@ pub mod Construct
 pub mod Meaning
 pub mod Built
 pub mod Programs
+pub mod Jumps
