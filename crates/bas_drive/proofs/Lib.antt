@@ -1,3 +1,5 @@
 pub mod Reading
+pub mod Runs
+pub mod Steps
 pub mod Taking
 pub mod Values
