@@ -5,3 +5,4 @@ pub mod Report
 pub mod Run
 pub mod Took
 pub mod Answer
+pub mod Headline

@@ -8,6 +8,7 @@
 mod ending;
 mod file;
 mod program;
+mod report;
 mod run;
 mod status;
 mod step;
