@@ -9,12 +9,12 @@ use Rattle.bas_drive.specs.Bytes.{same_text}
 use Rattle.bas_drive.specs.Meaning.{Variables, Outcome, unset, with_value, value_of, print_line, overflow_at, with_result, outcome_at, printing, silent}
 use Rattle.bas_world.specs.Count.{CountMoves}
 use Rattle.bas_drive.specs.Took.{TookAll, TookPrefix}
-use Rattle.bas_drive.specs.Run.{values_in, GoesOn, EndsAt, IsAssigned, StepOf, is_failure, step_failed}
+use Rattle.bas_drive.specs.Run.{values_in, GoesOn, EndsAt, IsAssigned, StepOf, is_failure, is_output_fault, is_store_fault, step_is}
 use Rattle.bas_drive.specs.Run.StepOf.{Passes, Comes, Fails}
 use Rattle.bas_drive.specs.declared.step.Step.{Step}
 use Rattle.bas_drive.specs.declared.step.Step.TheVariants.{Next, Ends}
 use Rattle.bas_drive.specs.declared.ending.Ending.{Ending}
-use Rattle.bas_drive.proofs.Taking.{TookAll-none}
+use Rattle.bas_drive.proofs.Taking.{TookAll-none, TookPrefix-none}
 use Rattle.bas_drive.specs.declared.ending.Ending.TheVariants as ends
 use Rattle.bas_drive.specs.declared.program.NumItem.{NumItem}
 use Rattle.bas_drive.specs.declared.program.Item.{Item}
@@ -76,10 +76,6 @@ values_in-insert m n name x gets = λ i q. at q i
           ∙ (chosen (is_at (slice_cmp nat_cmp name) q) x (get (slice_cmp nat_cmp) m q)
           ∙ ap (λ b. cond b x (values_in m q)) (sym (texts_ties name q)))
 
--- nothing was taken of any text
-took_nothing : (before : Option (List ℕ)) (text : List ℕ) → TookPrefix before before text
-took_nothing before text = record { part = []; rest = text; whole = refl; took = TookAll-none before }
-
 -- a line that stops by an overflow
 pub stops :
     (line : NumItem) (old : Variables) (before : Option (List ℕ)) (ending : Ending) →
@@ -95,7 +91,7 @@ assigns line name terms old new x before Next is_item value set =
     Passes [] (let-goes_on line name terms old new x is_item value set) (TookAll-none before)
 assigns line name terms old new x before (Ends ending) is_item value set =
     subst (λ e. StepOf line old new before before (Ends e)) (sym set)
-      (Fails ends.Memory refl [] (with_value old name x) (let-goes_on line name terms old (with_value old name x) x is_item value refl) (took_nothing before []))
+      (Fails ends.Memory refl [] (with_value old name x) (let-goes_on line name terms old (with_value old name x) x is_item value refl) (TookPrefix-none before []))
 
 -- a count that nothing moved
 pub stands_still : (count : ℕ) → CountMoves false count count
@@ -105,9 +101,9 @@ stands_still count = record { never_falls = omega arith; rises = λ e. absurd (t
     true-false e = cc
 
 -- a LET moves no count
-pub assigns-counted : (step : Step) (old new : Variables) (name : List ℕ) (x : Number) (count : ℕ) → IsAssigned step old new name x → CountMoves (step_failed step) count count
+pub assigns-counted : (step : Step) (old new : Variables) (name : List ℕ) (x : Number) (count : ℕ) → IsAssigned step old new name x → CountMoves (step_is is_output_fault step) count count
 assigns-counted Next old new name x count set = stands_still count
-assigns-counted (Ends ending) old new name x count set = subst (λ e. CountMoves (step_failed (Ends e)) count count) (sym set) (stands_still count)
+assigns-counted (Ends ending) old new name x count set = subst (λ e. CountMoves (step_is is_output_fault (Ends e)) count count) (sym set) (stands_still count)
 
 -- a PRINT that has its value, and whose line was taken
 pub prints :
@@ -120,3 +116,8 @@ pub fails :
     (line : NumItem) (terms : List Term) (old : Variables) (x : Number) (before now : Option (List ℕ)) (ending : Ending) → is_failure ending ≡ true →
     line.item ≡ Print terms → Ok x ≡ value_of old terms → TookPrefix before now (print_line x) → StepOf line old old before now (Ends ending)
 fails line terms old x before now ending failed is_item value took = Fails ending failed (print_line x) old (print-goes_on line terms old x is_item value) took
+
+-- a LET touches no store
+pub assigns-store : (step : Step) (old new : Variables) (name : List ℕ) (x : Number) → IsAssigned step old new name x → step_is is_store_fault step ≡ false
+assigns-store Next old new name x set = refl
+assigns-store (Ends ending) old new name x set = ap (λ e. is_store_fault e) set

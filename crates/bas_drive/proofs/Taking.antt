@@ -68,3 +68,7 @@ TookPrefix-then before middle now first second all some = record {
 -- the front of a buffer that begins with a text
 pub text_at : (count : ℕ) (text buffer rest : List ℕ) → count ≡ length text → buffer ≡ text ++ rest → take count buffer ≡ text
 text_at count text buffer rest is_count is_buffer = ap (λ b. take count b) is_buffer ∙ take_at text rest count (sym is_count)
+
+-- nothing was taken of any text
+pub TookPrefix-none : (before : Option (List ℕ)) (text : List ℕ) → TookPrefix before before text
+TookPrefix-none before text = record { part = []; rest = text; whole = refl; took = TookAll-none before }

@@ -22,6 +22,10 @@ abbrev pub command_of : List (List ℕ) → Option Command
 command_of (verb ∷ name ∷ []) = if same_text verb (codes "go") && is_source_name name then Some (Go name) else None
 command_of _ = None
 
+-- the file that a command names
+abbrev pub name_of : Command → List ℕ
+name_of (Go name) = name
+
 -- the answer to `go` for a file that is a program or is none
 abbrev pub program_answer : List ℕ → Option (List NumItem) → Outcome
 program_answer name None = silent (Refused name)

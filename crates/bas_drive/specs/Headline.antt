@@ -41,6 +41,29 @@ can_be FileMissing = true
 can_be ReportFault = true
 can_be TooLarge = false
 
+-- the report failed
+abbrev pub is_report_fault : Status → Bool
+is_report_fault Ended = false
+is_report_fault Stopped = false
+is_report_fault Usage = false
+is_report_fault SourceRefused = false
+is_report_fault LinkRefused = false
+is_report_fault ImageRefused = false
+is_report_fault LinesSpent = false
+is_report_fault StoreFault = false
+is_report_fault InputFault = false
+is_report_fault OutputFault = false
+is_report_fault Memory = false
+is_report_fault FileMissing = false
+is_report_fault ReportFault = true
+is_report_fault TooLarge = false
+
+-- an ending was told with its whole line, or some of the line and no more, for want of memory or by a fault of the report
+pub data IsTold (ending : Ending) (before now : Option (List ℕ)) : Status → Type 0 where
+  Whole : TookAll before now (report_of ending) → IsTold ending before now (status_of ending)
+  CutByFault : TookPrefix before now (report_of ending) → IsTold ending before now ReportFault
+  CutByMemory : TookPrefix before now (report_of ending) → IsTold ending before now Memory
+
 -- the whole answer was given: its status, all of its output, and its report line
 pub record IsAnswered (answer : Outcome) (out_before out_now report_before report_now : Option (List ℕ)) (status : Status) : Type 0 where
   pub status_is : status ≡ status_of answer.ending

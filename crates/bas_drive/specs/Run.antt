@@ -4,6 +4,8 @@ use Rattle.std.specs.Ordering.{nat_cmp}
 use Rattle.std.specs.Cmp.Lexicographic.{slice_cmp}
 use Rattle.std.specs.BTreeMap.{BTreeMap, get}
 use Rattle.bas_dec.specs.Number.{Number}
+use Rattle.bas_world.specs.declared.store.StoreFail.{StoreFail}
+use Rattle.bas_world.specs.declared.store.StoreFail.TheVariants as store
 use Rattle.bas_drive.specs.Meaning.{Variables, Outcome, unset, outcome_at, printing, silent, with_value}
 use Rattle.bas_drive.specs.Took.{TookAll, TookPrefix}
 use Rattle.bas_drive.specs.declared.program.NumItem.{NumItem}
@@ -38,10 +40,21 @@ is_output_fault ends.Usage = false
 is_output_fault (ends.Missing name) = false
 is_output_fault (ends.Refused name) = false
 
--- a step ends with that
-abbrev pub step_failed : Step → Bool
-step_failed Next = false
-step_failed (Ends ending) = is_output_fault ending
+-- the store failed
+abbrev pub is_store_fault : Ending → Bool
+is_store_fault ends.StoreFault = true
+is_store_fault ends.OutputFault = false
+is_store_fault ends.Memory = false
+is_store_fault ends.Ended = false
+is_store_fault (ends.Stopped at) = false
+is_store_fault ends.Usage = false
+is_store_fault (ends.Missing name) = false
+is_store_fault (ends.Refused name) = false
+
+-- what the ending of a step is, where it ends the run
+abbrev pub step_is : (Ending → Bool) → Step → Bool
+step_is test Next = false
+step_is test (Ends ending) = test ending
 
 -- a variable has its new value, or there was no memory for it
 abbrev pub IsAssigned : Step → Variables → Variables → List ℕ → Number → Type 0
@@ -66,3 +79,8 @@ pub data StepOf (line : NumItem) (old new : Variables) (before now : Option (Lis
 abbrev pub RunOf : Outcome → Option (List ℕ) → Option (List ℕ) → Ending → Type 0
 RunOf outcome before now ending =
     MatchBool (is_failure ending) (TookPrefix before now outcome.output) ((ending ≡ outcome.ending) × TookAll before now outcome.output)
+
+-- the ending of a command whose store failed
+abbrev pub store_ending : StoreFail → Ending
+store_ending store.Failed = ends.StoreFault
+store_ending store.Memory = ends.Memory

@@ -8,10 +8,12 @@
 mod ending;
 mod file;
 mod program;
+mod reader;
 mod report;
 mod run;
 mod status;
 mod step;
+mod top;
 mod words;
 mod write;
 

@@ -2,6 +2,7 @@ ghost use Rattle.std.specs.Prelude.{◌≡◌, ◌++◌, ◌∷◌, [], IfOk, On
 ghost use Rattle.bas_world.specs.Count.{CountMoves};
 ghost use Rattle.bas_world.specs.Faults.{sink_failed};
 ghost use Rattle.bas_drive.specs.Took.{TookAll, TookPrefix};
+ghost use Rattle.bas_drive.specs.Headline.{IsTold, is_report_fault};
 ghost use Rattle.bas_drive.specs.Report.{report_of, status_of, stop_line, file_line};
 
 use crate::ending::Ending;
@@ -67,5 +68,21 @@ fn report_of(alloc: Global, ending: &Ending) -> Result<Vec<u8>, AllocError>
         Ending::Refused(name) => file_line(alloc, name, b": refused"),
         Ending::StoreFault => Vec::from_slice(alloc, b"store fault\n"),
         Ending::OutputFault => Vec::from_slice(alloc, b"output fault\n"),
+    }
+}
+
+/// Writes the report line of an ending, and answers its status.
+pub fn tell<E: Sink>(alloc: Global, ending: Ending, report: &mut E) -> Status
+    ensures told { IsTold ending (E.taken report.old) (E.taken report.new) result }
+    ensures counted { CountMoves (is_report_fault result) (E.faults report.old) (E.faults report.new) }
+{
+    let text = match report_of(alloc, &ending) {
+        Ok(text) => text,
+        Err(_) => return Status::Memory,
+    };
+    match write_all(report, text.as_slice()) {
+        Ok(()) => status_of(ending),
+        Err(SinkFail::Failed) => Status::ReportFault,
+        Err(SinkFail::Memory) => Status::Memory,
     }
 }

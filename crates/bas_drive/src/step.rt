@@ -1,4 +1,4 @@
-ghost use Rattle.std.specs.Prelude.{◌≡◌, codes, if◌then◌else◌, MatchResult, OnOk, OnErr, Ok, Err};
+ghost use Rattle.std.specs.Prelude.{◌≡◌, false, codes, if◌then◌else◌, MatchResult, OnOk, OnErr, Ok, Err};
 ghost use Rattle.std.specs.Ordering.{nat_cmp};
 ghost use Rattle.std.specs.Cmp.Lexicographic.{slice_cmp};
 ghost use Rattle.bas_dec.specs.Arithmetic.{sum_of, difference_of};
@@ -6,7 +6,7 @@ ghost use Rattle.bas_world.specs.Count.{CountMoves};
 ghost use Rattle.bas_world.specs.Faults.{sink_failed};
 ghost use Rattle.bas_drive.specs.Took.{TookAll, TookPrefix};
 ghost use Rattle.bas_drive.specs.Meaning.{unset, operand_value, value_of, value_after, print_line, overflow_at, with_value};
-ghost use Rattle.bas_drive.specs.Run.{values_in, IsAssigned, StepOf, step_failed};
+ghost use Rattle.bas_drive.specs.Run.{values_in, IsAssigned, StepOf, is_output_fault, is_store_fault, step_is};
 
 use crate::ending::Ending;
 use crate::program::{Item, NumItem, Operand, Term};
@@ -108,7 +108,8 @@ fn assign(values: &mut BTreeMap<Name, Dec>, name: Name, x: Dec) -> Step
 /// Runs one line.
 pub fn run_line<O: Sink>(line: &NumItem, values: &mut BTreeMap<Name, Dec>, out: &mut O) -> Step
     ensures does { StepOf line.now (values_in values.old) (values_in values.new) (O.taken out.old) (O.taken out.new) result }
-    ensures counted { CountMoves (step_failed result) (O.faults out.old) (O.faults out.new) }
+    ensures counted { CountMoves (step_is is_output_fault result) (O.faults out.old) (O.faults out.new) }
+    ensures store { step_is is_store_fault result ≡ false }
 {
     match &line.item {
         Item::Let(name, terms) => match value_of(values, terms.items()) {

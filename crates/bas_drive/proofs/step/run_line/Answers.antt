@@ -1,7 +1,7 @@
 use Rattle.std.proofs.Common.{refl, ap, ◌∙◌}
 use Rattle.bas_drive.specs.Meaning.{value_of}
 use Rattle.bas_drive.specs.Run.{values_in}
-use Rattle.bas_drive.proofs.Steps.{assigns, assigns-counted, stops, prints, fails, let-ends, print-ends, end-ends}
+use Rattle.bas_drive.proofs.Steps.{assigns, assigns-counted, assigns-store, stops, prints, fails, let-ends, print-ends, end-ends}
 use Rattle.bas_drive.specs.Run.StepOf.{Comes}
 use Rattle.bas_drive.proofs.step.run_line.Goals as goal
 
@@ -43,3 +43,6 @@ returns-in-Err-value_of-clause-does g c =
 
 pub returns-in-End-clause-does : goal.returns-in-End-clause-does
 returns-in-End-clause-does g c = Comes _ refl (end-ends c.args.line.now (values_in c.args.values.now) c.in-End.is) refl
+
+pub returns-in-Ok-clause-store : goal.returns-in-Ok-clause-store
+returns-in-Ok-clause-store g c = assigns-store c.assign.result (values_in c.args.values.now) (values_in c.assign.new.values) c.in-Let.name c.in-Ok.x c.assign.ensures
