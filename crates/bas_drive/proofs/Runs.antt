@@ -52,7 +52,7 @@ outcome_of-drop :
     outcome_of (drop i program) variables ≡ outcome_at line.line line.item variables (λ v. outcome_of (drop (suc i) program) v)
 outcome_of-drop program i line variables lt is_line =
     ap (λ ls. outcome_of ls variables) (drop-cons program i line lt)
-      ∙ (ap (λ l. outcome_of (l ∷ drop (suc i) program) variables) (sym is_line) ∙ outcome_of-line line (drop (suc i) program) variables)
+    ∙ (ap (λ l. outcome_of (l ∷ drop (suc i) program) variables) (sym is_line) ∙ outcome_of-line line (drop (suc i) program) variables)
 
 -- what is left of the outcome, where the line prints a text and goes on
 goes_on :
@@ -65,11 +65,11 @@ passes :
     (whole rest next : Outcome) (text : List ℕ) (before middle now : Option (List ℕ)) →
     Running whole rest before middle → rest ≡ printing text next → TookAll middle now text → Running whole next before now
 passes whole rest next text before middle now so_far is_rest took = record {
-    sent = so_far.sent ++ text;
-    output = append_assoc so_far.sent text next.output ∙ (ap (λ r. so_far.sent ++ r.output) (sym is_rest) ∙ so_far.output);
-    ending = ap (λ r. r.ending) (sym is_rest) ∙ so_far.ending;
-    took = TookAll-then before middle now so_far.sent text so_far.took took
-  }
+  sent = so_far.sent ++ text;
+  output = append_assoc so_far.sent text next.output ∙ (ap (λ r. so_far.sent ++ r.output) (sym is_rest) ∙ so_far.output);
+  ending = ap (λ r. r.ending) (sym is_rest) ∙ so_far.ending;
+  took = TookAll-then before middle now so_far.sent text so_far.took took;
+}
 
 pub Running-next :
     (whole : Outcome) (program : List NumItem) (i : ℕ) (line : NumItem) (old new : Variables) (before middle now : Option (List ℕ)) →
@@ -78,7 +78,7 @@ pub Running-next :
     Running whole (outcome_of (drop (i + 1) program) new) before now
 Running-next whole program i line old new before middle now lt is_line so_far (Passes text goes took) =
     subst (λ k. Running whole (outcome_of (drop k program) new) before now) (sym (add-one i))
-      (passes whole (outcome_of (drop i program) old) (outcome_of (drop (suc i) program) new) text before middle now so_far (goes_on program i line old new text lt is_line goes) took)
+    (passes whole (outcome_of (drop i program) old) (outcome_of (drop (suc i) program) new) text before middle now so_far (goes_on program i line old new text lt is_line goes) took)
 
 -- the two cases of a choice between facts
 at_true : (P Q : Type 0) (b : Bool) → b ≡ true → P → MatchBool b P Q
@@ -99,7 +99,7 @@ some_taken :
     Running whole rest before middle → rest ≡ printing text next → TookPrefix middle now text → TookPrefix before now whole.output
 some_taken whole rest next text before middle now so_far is_rest some =
     subst (λ t. TookPrefix before now t) (ap (λ r. so_far.sent ++ r.output) (sym is_rest) ∙ so_far.output)
-      (TookPrefix-then before middle now so_far.sent (text ++ next.output) so_far.took (TookPrefix-front middle now text next.output some))
+    (TookPrefix-then before middle now so_far.sent (text ++ next.output) so_far.took (TookPrefix-front middle now text next.output some))
 
 pub Running-ends :
     (whole : Outcome) (program : List NumItem) (i : ℕ) (line : NumItem) (old new : Variables) (before middle now : Option (List ℕ)) (ending : Ending) →
@@ -107,11 +107,11 @@ pub Running-ends :
     Running whole (outcome_of (drop i program) old) before middle → StepOf line old new middle now (Ends ending) → RunOf whole before now ending
 Running-ends whole program i line old new before middle now ending lt is_line so_far (Comes _ not_failed comes same) =
     at_false (TookPrefix before now whole.output) ((ending ≡ whole.ending) × TookAll before now whole.output) (is_failure ending) not_failed
-      (subst (λ t. (ending ≡ whole.ending) × TookAll before t whole.output) (sym same)
-        (all_taken whole (outcome_of (drop i program) old) before middle ending so_far (outcome_of-drop program i line old lt is_line ∙ comes (λ v. outcome_of (drop (suc i) program) v))))
+    (subst (λ t. (ending ≡ whole.ending) × TookAll before t whole.output) (sym same)
+    (all_taken whole (outcome_of (drop i program) old) before middle ending so_far (outcome_of-drop program i line old lt is_line ∙ comes (λ v. outcome_of (drop (suc i) program) v))))
 Running-ends whole program i line old new before middle now ending lt is_line so_far (Fails _ failed text after goes some) =
     at_true (TookPrefix before now whole.output) ((ending ≡ whole.ending) × TookAll before now whole.output) (is_failure ending) failed
-      (some_taken whole (outcome_of (drop i program) old) (outcome_of (drop (suc i) program) after) text before middle now so_far (goes_on program i line old after text lt is_line goes) some)
+    (some_taken whole (outcome_of (drop i program) old) (outcome_of (drop (suc i) program) after) text before middle now so_far (goes_on program i line old after text lt is_line goes) some)
 
 -- the run when no line is left
 pub Running-end :

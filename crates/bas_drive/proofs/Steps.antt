@@ -31,7 +31,7 @@ pub let-goes_on :
     line.item ≡ Let name terms → Ok x ≡ value_of old terms → new ≡ with_value old name x → GoesOn line old new []
 let-goes_on line name terms old new x is_item value set next =
     at_item line old next (Let name terms) is_item
-      ∙ (ap (λ r. with_result line.line r (λ y. next (with_value old name y))) (sym value) ∙ ap (λ v. next v) (sym set))
+    ∙ (ap (λ r. with_result line.line r (λ y. next (with_value old name y))) (sym value) ∙ ap (λ v. next v) (sym set))
 
 -- LET without a value stops
 pub let-ends :
@@ -73,8 +73,8 @@ values_in-insert m n name x gets = λ i q. at q i
     at : (q : List ℕ) → values_in n q ≡ with_value (values_in m) name x q
     at q =
         ap (λ o. unwrap_or o unset) (gets q)
-          ∙ (chosen (is_at (slice_cmp nat_cmp name) q) x (get (slice_cmp nat_cmp) m q)
-          ∙ ap (λ b. cond b x (values_in m q)) (sym (texts_ties name q)))
+        ∙ (chosen (is_at (slice_cmp nat_cmp name) q) x (get (slice_cmp nat_cmp) m q)
+        ∙ ap (λ b. cond b x (values_in m q)) (sym (texts_ties name q)))
 
 -- a line that stops by an overflow
 pub stops :
@@ -91,7 +91,7 @@ assigns line name terms old new x before Next is_item value set =
     Passes [] (let-goes_on line name terms old new x is_item value set) (TookAll-none before)
 assigns line name terms old new x before (Ends ending) is_item value set =
     subst (λ e. StepOf line old new before before (Ends e)) (sym set)
-      (Fails ends.Memory refl [] (with_value old name x) (let-goes_on line name terms old (with_value old name x) x is_item value refl) (TookPrefix-none before []))
+    (Fails ends.Memory refl [] (with_value old name x) (let-goes_on line name terms old (with_value old name x) x is_item value refl) (TookPrefix-none before []))
 
 -- a count that nothing moved
 pub stands_still : (count : ℕ) → CountMoves false count count

@@ -33,7 +33,7 @@ pub value_after-drop :
     value_after variables x (drop i terms) ≡ and_then (with_term variables x term) (λ z. value_after variables z (drop (suc i) terms))
 value_after-drop variables x terms i term lt is_term =
     ap (λ ts. value_after variables x ts) (drop-cons terms i term lt)
-      ∙ (ap (λ t. value_after variables x (t ∷ drop (suc i) terms)) (sym is_term) ∙ value_after-term variables x term (drop (suc i) terms))
+    ∙ (ap (λ t. value_after variables x (t ∷ drop (suc i) terms)) (sym is_term) ∙ value_after-term variables x term (drop (suc i) terms))
 
 -- a term's value is the operand's, and the two are joined to r
 with_term-is :
@@ -48,8 +48,8 @@ pub value_after-next :
     value_after variables x (drop i terms) ≡ value_after variables z (drop (i + 1) terms)
 value_after-next variables x terms i term y z lt is_term is_y joined =
     value_after-drop variables x terms i term lt is_term
-      ∙ (ap (λ r. and_then r (λ v. value_after variables v (drop (suc i) terms))) (with_term-is variables x term y (Ok z) is_y joined)
-      ∙ ap (λ k. value_after variables z (drop k terms)) (sym (add-one i)))
+    ∙ (ap (λ r. and_then r (λ v. value_after variables v (drop (suc i) terms))) (with_term-is variables x term y (Ok z) is_y joined)
+    ∙ ap (λ k. value_after variables z (drop k terms)) (sym (add-one i)))
 
 -- the term at an index gives a fault, and that is the value
 pub value_after-fault :

@@ -1,8 +1,8 @@
 -- What the top call promises.
-use Rattle.std.specs.Prelude.{◌≡◌, ℕ, ◌⊎◌, Bool, true, false, IsTrue, MatchBool, List, Option}
+use Rattle.std.specs.Prelude.{◌≡◌, ℕ, ◌==◌, ◌||◌, Bool, true, false, IsTrue, MatchBool, List, Option}
 use Rattle.bas_drive.specs.Took.{TookAll, TookPrefix}
 use Rattle.bas_drive.specs.Meaning.{Outcome}
-use Rattle.bas_drive.specs.Report.{status_of, report_of}
+use Rattle.bas_drive.specs.Report.{status_of, report_of, code_of}
 use Rattle.bas_drive.specs.declared.ending.Ending.{Ending}
 use Rattle.bas_drive.specs.declared.status.Status.{Status}
 use Rattle.bas_drive.specs.declared.status.Status.TheVariants.{Ended, Stopped, Usage, SourceRefused, LinkRefused, ImageRefused, LinesSpent, StoreFault, InputFault, OutputFault, Memory, FileMissing, ReportFault, TooLarge}
@@ -74,6 +74,13 @@ pub record IsAnswered (answer : Outcome) (out_before out_now report_before repor
 abbrev pub AnswersOrGivesUp : Outcome → Option (List ℕ) → Option (List ℕ) → Option (List ℕ) → Option (List ℕ) → Status → Type 0
 AnswersOrGivesUp answer out_before out_now report_before report_now status =
     MatchBool (gave_up status) (TookPrefix out_before out_now answer.output) (IsAnswered answer out_before out_now report_before report_now status)
+
+-- the answer tells of that fault, or the report failed as well, or there was no memory
+abbrev pub tells_fault : Status → Status → Bool
+tells_fault fault answer = code_of answer == code_of fault || (is_report_fault answer || is_memory answer)
+  where
+    is_memory : Status → Bool
+    is_memory status = code_of status == 10
 
 -- some of one report line was taken, from the front
 pub record TookReportPrefix (before now : Option (List ℕ)) : Type 0 where

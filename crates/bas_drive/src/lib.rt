@@ -18,3 +18,4 @@ mod words;
 mod write;
 
 pub use status::Status;
+pub use top::basic_words;

@@ -12,7 +12,7 @@ returns-in-Err-clause-told g c = CutByMemory (TookPrefix-none _ (report_of c.arg
 pub returns-in-Ok-write_all-clause-told : goal.returns-in-Ok-write_all-clause-told
 returns-in-Ok-write_all-clause-told g c =
     subst (λ s. IsTold c.args.ending (g.E.Sink.taken c.args.report.now) (g.E.Sink.taken c.write_all.new.out) s) (sym c.status_of.ensures)
-      (Whole (subst (λ text. TookAll (g.E.Sink.taken c.args.report.now) (g.E.Sink.taken c.write_all.new.out) text) (c.as_slice.ensures.value ∙ c.in-Ok.ensures) c.in-Ok-write_all.ensures.all))
+    (Whole (subst (λ text. TookAll (g.E.Sink.taken c.args.report.now) (g.E.Sink.taken c.write_all.new.out) text) (c.as_slice.ensures.value ∙ c.in-Ok.ensures) c.in-Ok-write_all.ensures.all))
 
 pub returns-in-Err-Failed-clause-told : goal.returns-in-Err-Failed-clause-told
 returns-in-Err-Failed-clause-told g c =

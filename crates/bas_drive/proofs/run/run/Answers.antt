@@ -7,13 +7,14 @@ use Rattle.bas_drive.proofs.run.run.Goals as goal
 pub returns-in-Ends-clause-does : goal.returns-in-Ends-clause-does
 returns-in-Ends-clause-does g c =
     Running-ends (meaning_of c.args.program.now) c.args.program.now c.loop-line.line-index c.line-item.result (values_in c.loop-line.values) (values_in c.run_line.new.values) _ _ _ c.in-Ends.ending
-      c.loop-line-test.true c.line-item.is c.loop-line.invariant.0 c.in-Ends.ensures.does
+    c.loop-line-test.true c.line-item.is c.loop-line.invariant.0 c.in-Ends.ensures.does
 
 pub loop-line-preserved : goal.loop-line-preserved
-loop-line-preserved g c =
-    (Running-next (meaning_of c.args.program.now) c.args.program.now c.loop-line.line-index c.line-item.result (values_in c.loop-line.values) (values_in c.run_line.new.values) _ _ _
+loop-line-preserved g c = (
+  Running-next (meaning_of c.args.program.now) c.args.program.now c.loop-line.line-index c.line-item.result (values_in c.loop-line.values) (values_in c.run_line.new.values) _ _ _
       c.loop-line-test.true c.line-item.is c.loop-line.invariant.0 c.in-Next.ensures.does,
-     c.in-Next.ensures.counted.stands refl ∙ c.loop-line.invariant.1)
+  c.in-Next.ensures.counted.stands refl ∙ c.loop-line.invariant.1,
+)
 
 pub returns-clause-does : goal.returns-clause-does
 returns-clause-does g c =
