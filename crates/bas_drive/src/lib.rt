@@ -8,6 +8,7 @@
 mod ending;
 mod file;
 mod program;
+mod reader;
 mod status;
 mod step;
 mod words;
