@@ -38,6 +38,10 @@ without_trailing text = take (length text - suffix_len is_space text) text
 abbrev pub trimmed : List ℕ → List ℕ
 trimmed text = without_trailing (without_leading text)
 
+-- nothing but spaces
+abbrev pub is_blank : List ℕ → Bool
+is_blank text = is_empty (trimmed text)
+
 -- the lines of a file: each ends with LF, which the last may lack
 unfoldable pub lines_of : List ℕ → List (List ℕ)
 lines_of [] = []

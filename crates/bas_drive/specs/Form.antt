@@ -9,7 +9,7 @@ use Rattle.bas_dec.specs.Number.{Number}
 use Rattle.bas_dec.specs.Numeral.{numeral_of}
 use Rattle.bas_dec.specs.declared.numeral.Numeral.{Numeral}
 use Rattle.bas_dec.specs.declared.numeral.Numeral.TheVariants.{Value, TooLarge, NotNumeral}
-use Rattle.bas_drive.specs.Bytes.{is_empty, same_text, is_space, is_sign, is_equals, is_line_end, trimmed, lines_of, spelled}
+use Rattle.bas_drive.specs.Bytes.{is_empty, is_blank, same_text, is_space, is_sign, is_equals, is_line_end, trimmed, lines_of, spelled}
 use Rattle.bas_drive.specs.declared.program.Operand.{Operand}
 use Rattle.bas_drive.specs.declared.program.Operand.TheVariants.{Variable, Constant}
 use Rattle.bas_drive.specs.declared.program.Term.{Term}
@@ -74,7 +74,7 @@ cut (c ∷ cs) =
 abbrev pub pieces_of : List ℕ → List Piece
 pieces_of text =
     let parts = cut text in
-    if is_empty (trimmed parts.0) && not (is_empty parts.1) then parts.1 else (false, parts.0) ∷ parts.1
+    if is_blank parts.0 && not (is_empty parts.1) then parts.1 else (false, parts.0) ∷ parts.1
 
 -- each piece as a term, if each has an operand
 unfoldable pub terms_of : List Piece → Option (List Term)
@@ -93,6 +93,10 @@ assignment_of text =
     then both Let (variable_of (trimmed (before_first is_equals text))) (sum_of (after_first is_equals text))
     else None
 
+-- what PRINT prints: a sum
+abbrev pub print_of : List ℕ → Option Item
+print_of text = option_map Print (sum_of text)
+
 -- an item by its first word: LET, PRINT or END
 abbrev pub item_of : List ℕ → Option Item
 item_of text =
@@ -100,19 +104,26 @@ item_of text =
     let word = str_to_ascii_uppercase (take count text) in
     let rest = drop count text in
     if same_text word (codes "LET") then assignment_of rest
-    else if same_text word (codes "PRINT") then option_map Print (sum_of rest)
+    else if same_text word (codes "PRINT") then print_of rest
     else if same_text word (codes "END") && is_empty rest then Some End
     else None
 
--- a line: 1 to 8 digits of a value from 1 to 99999, one or more spaces, and an item; spaces may end it
+-- a line number: 1 to 8 digits of a value from 1 to 99999
+abbrev pub line_number_of : List ℕ → Option ℕ
+line_number_of digits =
+    let number = spelled digits in
+    if nat_le (length digits) 8 && (nat_le 1 number && nat_le number 99999) then Some number else None
+
+-- an item with the number of its line
+abbrev pub numbered : ℕ → Item → NumItem
+numbered number item = record { line = number; item = item }
+
+-- a line: a line number, one or more spaces, and an item; spaces may end it
 abbrev pub line_of : List ℕ → Option NumItem
 line_of text =
     let count = prefix_len is_ascii_digit text in
-    let number = spelled (take count text) in
     let rest = drop count text in
-    if (nat_le count 8 && (nat_le 1 number && nat_le number 99999)) && is_space (slice_index rest 0)
-    then option_map (λ item. record { line = number; item = item }) (item_of (trimmed rest))
-    else None
+    if is_space (slice_index rest 0) then both numbered (line_number_of (take count text)) (item_of (trimmed rest)) else None
 
 -- each text as a line, if each is one
 unfoldable pub all_lines : List (List ℕ) → Option (List NumItem)

@@ -1,8 +1,8 @@
-ghost use Rattle.std.specs.Prelude.{◌≡◌, ◌≤◌, length};
-ghost use Rattle.std.specs.List.{list_all, prefix_len, position_or_len, ends_with};
+ghost use Rattle.std.specs.Prelude.{◌≡◌, ◌==◌, ◌+◌, ◌≤◌, length, drop, slice_index};
+ghost use Rattle.std.specs.List.{list_all, list_any, prefix_len, position_or_len, before_first, after_first, ends_with};
 ghost use Rattle.std.specs.Char.{is_ascii_digit};
 ghost use Rattle.bas_base.specs.Names.{is_word_byte};
-ghost use Rattle.bas_drive.specs.Bytes.{is_equals, is_line_end, is_sign, is_space, same_text, trimmed, without_leading, without_trailing};
+ghost use Rattle.bas_drive.specs.Bytes.{is_equals, is_sign, is_space, same_text, trimmed, without_leading, without_trailing};
 ghost use Rattle.bas_drive.specs.Form.{is_source_byte, is_string_name};
 
 fn is_word_byte(c: u8) -> bool
@@ -61,14 +61,6 @@ pub fn digit_len(text: &[u8]) -> usize
     text.iter().take_while(|c| c.is_ascii_digit()).count()
 }
 
-/// Where the first line ends, at its LF or at the end of the text.
-pub fn line_len(text: &[u8]) -> usize
-    ensures value { result ≡ position_or_len is_line_end text.now }
-    ensures within { result ≤ length text.now }
-{
-    text.iter().take_while(|c| **c != b'\n').count()
-}
-
 /// Where the first plus or minus stands, or the end of the text.
 pub fn sign_place(text: &[u8]) -> usize
     ensures value { result ≡ position_or_len is_sign text.now }
@@ -77,12 +69,39 @@ pub fn sign_place(text: &[u8]) -> usize
     text.iter().take_while(|c| !is_sign(**c)).count()
 }
 
-/// Where the first `=` stands, or the end of the text.
-pub fn equals_place(text: &[u8]) -> usize
-    ensures value { result ≡ position_or_len is_equals text.now }
+fn byte_place(text: &[u8], byte: u8) -> usize
+    ensures value { result ≡ position_or_len (λ c. c == byte) text.now }
     ensures within { result ≤ length text.now }
 {
-    text.iter().take_while(|c| **c != b'=').count()
+    text.iter().take_while(|c| **c != byte).count()
+}
+
+// What stands behind the byte at a place.
+fn behind_place(text: &[u8], place: usize) -> &[u8]
+    requires { place ≤ length text.now }
+    ensures { result.now ≡ drop (place + 1) text.now }
+{
+    if place < text.len() {
+        &text[place + 1..]
+    } else {
+        &[]
+    }
+}
+
+/// What stands in front of the first such byte, and what stands behind it.
+pub fn split_at_byte(text: &[u8], byte: u8) -> (&[u8], &[u8])
+    ensures front { result.0.now ≡ before_first (λ c. c == byte) text.now }
+    ensures behind { result.1.now ≡ after_first (λ c. c == byte) text.now }
+{
+    let place = byte_place(text, byte);
+    (&text[..place], behind_place(text, place))
+}
+
+/// The text has a `=`.
+pub fn has_equals(text: &[u8]) -> bool
+    ensures { result ≡ list_any is_equals text.now }
+{
+    text.iter().any(|c| *c == b'=')
 }
 
 fn space_len(text: &[u8]) -> usize
@@ -113,4 +132,18 @@ pub fn trimmed(text: &[u8]) -> &[u8]
     ensures { result.now ≡ trimmed text.now }
 {
     without_trailing(without_leading(text))
+}
+
+/// The text begins with a digit.
+pub fn begins_with_digit(text: &[u8]) -> bool
+    ensures { result ≡ is_ascii_digit (slice_index text.now 0) }
+{
+    !text.is_empty() && text[0].is_ascii_digit()
+}
+
+/// The text begins with a space.
+pub fn begins_with_space(text: &[u8]) -> bool
+    ensures { result ≡ is_space (slice_index text.now 0) }
+{
+    !text.is_empty() && text[0] == b' '
 }
