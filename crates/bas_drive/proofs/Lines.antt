@@ -1,10 +1,12 @@
 -- A file, line by line.
-use Rattle.std.proofs.Common.{◌≡◌, ℕ, ◌+◌, ◌<◌, Bool, true, false, not, cond, List, [], ◌∷◌, ◌++◌, length, take, drop, Option, Some, None, refl, ap, sym, ◌∙◌, append-nil, arith, suc}
-use Rattle.std.specs.List.{position_or_len, before_first, after_first, onto_first}
-use Rattle.std.specs.Option.{option_map}
+use Rattle.std.proofs.Common.{◌≡◌, ℕ, ◌+◌, ◌<◌, Bool, true, false, not, cond, List, [], ◌∷◌, ◌++◌, length, take, drop, Option, Some, None, refl, ap, sym, ◌∙◌, append-nil, arith, suc, get_or, ◌≤◌, ◌&&◌, eqb, ltb}
+use Rattle.std.proofs.lemmas.Bool.{le-ltb, lt-ltb, eqb-true, ne_eqb}
+use Rattle.std.specs.Char.{is_ascii_digit}
+use Rattle.std.specs.List.{prefix_len, position_or_len, before_first, after_first, onto_first}
+use Rattle.bas_drive.specs.declared.program.Item.{Item}
 use Rattle.bas_drive.specs.declared.program.NumItem.{NumItem}
-use Rattle.bas_drive.specs.Bytes.{is_line_end, lines_of}
-use Rattle.bas_drive.specs.Form.{both, line_of, all_lines}
+use Rattle.bas_drive.specs.Bytes.{is_empty, is_line_end, is_space, lines_of, trimmed}
+use Rattle.bas_drive.specs.Form.{both, numbered, line_number_of, item_of, line_of, all_lines, is_end, is_program_after}
 use Rattle.bas_drive.specs.Reading.{behind}
 use Rattle.bas_drive.proofs.Behind.{one_more, behind_more}
 
@@ -63,3 +65,57 @@ pub lines_end : (lines : List NumItem) (rest : List ℕ) → length rest ≡ 0 �
 unfolding lines_of all_lines
 lines_end lines [] h = ap Some (sym (append-nil lines))
 lines_end lines (c ∷ cs) h = absurd (omega arith)
+
+-- the parts of a line with a space behind its digits
+pub line_parts : (text : List ℕ) (count : ℕ) (digits rest inner : List ℕ) → count ≡ prefix_len is_ascii_digit text → digits ≡ take count text → rest ≡ drop count text → inner ≡ trimmed rest →
+    is_space (get_or rest 0 0) ≡ true → line_of text ≡ both numbered (line_number_of digits) (item_of inner)
+line_parts text count digits rest inner n d r i h =
+    ap (λ (n : ℕ). cond (is_space (get_or (drop n text) 0 0)) (both numbered (line_number_of (take n text)) (item_of (trimmed (drop n text)))) None) (sym n)
+    ∙ ap (λ (r : List ℕ). cond (is_space (get_or r 0 0)) (both numbered (line_number_of (take count text)) (item_of (trimmed r))) None) (sym r)
+    ∙ ap (λ (b : Bool). cond b (both numbered (line_number_of (take count text)) (item_of (trimmed rest))) None) h
+    ∙ ap (λ (d : List ℕ). both numbered (line_number_of d) (item_of (trimmed rest))) (sym d)
+    ∙ ap (λ (i : List ℕ). both numbered (line_number_of digits) (item_of i)) (sym i)
+
+-- an item with its number, if both are there
+pub both_there : (number : Option ℕ) (item : Option Item) (n : ℕ) (i : Item) → number ≡ Some n → item ≡ Some i → both numbered number item ≡ Some (record { line = n; item = i })
+both_there number item n i e f = ap (λ (x : Option ℕ). both numbered x item) e ∙ ap (both numbered (Some n)) f
+
+pub no_item : (number : Option ℕ) (item : Option Item) (n : ℕ) → number ≡ Some n → item ≡ None → both numbered number item ≡ None
+no_item number item n e f = ap (λ (x : Option ℕ). both numbered x item) e ∙ ap (both numbered (Some n)) f
+
+pub empty_is : {X : Type 0} → (xs : List X) → eqb (length xs) 0 ≡ is_empty xs
+empty_is [] = refl
+empty_is (x ∷ xs) = ne_eqb (suc (length xs)) 0 (omega arith)
+
+pub some_left : (xs : List ℕ) → eqb (length xs) 0 ≡ false → 0 < length xs
+some_left [] h = absurd (cc)
+some_left (x ∷ xs) h = omega arith
+
+pub none_left : (xs : List ℕ) → eqb (length xs) 0 ≡ true → length xs ≡ 0
+none_left xs h = eqb-true (length xs) 0 h
+
+at_line : (number : ℕ) (rest : List NumItem) (line : NumItem) (others : List NumItem) (rises : Bool) → rest ≡ line ∷ others → ltb number line.line ≡ rises →
+    is_program_after number rest ≡ (rises && cond (is_end line.item) (is_empty others) (is_program_after line.line others))
+unfolding is_program_after
+at_line number rest line others rises r h =
+    ap (is_program_after number) r ∙ ap (λ (b : Bool). b && cond (is_end line.item) (is_empty others) (is_program_after line.line others)) h
+
+-- a line whose number is not above the one before it
+pub not_rising : (number : ℕ) (rest : List NumItem) (line : NumItem) (others : List NumItem) → rest ≡ line ∷ others → line.line ≤ number → false ≡ is_program_after number rest
+not_rising number rest line others r h = sym (at_line number rest line others false r (le-ltb number line.line h))
+
+-- END, which is to be the last line
+pub at_end : (number : ℕ) (rest : List NumItem) (line : NumItem) (others : List NumItem) → rest ≡ line ∷ others → number < line.line → is_end line.item ≡ true → is_empty others ≡ is_program_after number rest
+at_end number rest line others r h e =
+    sym (at_line number rest line others true r (lt-ltb number line.line h) ∙ ap (λ (b : Bool). cond b (is_empty others) (is_program_after line.line others)) e)
+
+-- another line
+pub at_other : (number : ℕ) (rest : List NumItem) (line : NumItem) (others : List NumItem) → rest ≡ line ∷ others → number < line.line → is_end line.item ≡ false → is_program_after line.line others ≡ is_program_after number rest
+at_other number rest line others r h e =
+    sym (at_line number rest line others true r (lt-ltb number line.line h) ∙ ap (λ (b : Bool). cond b (is_empty others) (is_program_after line.line others)) e)
+
+-- no line is left, and no END came
+pub without_end : (number : ℕ) (rest : List NumItem) → length rest ≡ 0 → false ≡ is_program_after number rest
+unfolding is_program_after
+without_end number [] h = refl
+without_end number (line ∷ lines) h = absurd (omega arith)

@@ -6,9 +6,34 @@ ghost use Rattle.bas_drive.specs.Form.{is_reserved};
 
 // The words that no variable may have for its name.
 const RESERVED_WORDS: [&[u8]; 28] = [
-    b"NOT", b"ELSE", b"PRINT", b"REM", b"TAB", b"ABS", b"SGN", b"INT", b"IP", b"FP", b"CEIL",
-    b"MOD", b"REMAINDER", b"ROUND", b"TRUNCATE", b"SQR", b"MAX", b"MIN", b"MAXNUM", b"RND",
-    b"EXTYPE", b"EXLINE", b"LBOUND", b"UBOUND", b"LEN", b"ORD", b"POS", b"VAL",
+    b"NOT",
+    b"ELSE",
+    b"PRINT",
+    b"REM",
+    b"TAB",
+    b"ABS",
+    b"SGN",
+    b"INT",
+    b"IP",
+    b"FP",
+    b"CEIL",
+    b"MOD",
+    b"REMAINDER",
+    b"ROUND",
+    b"TRUNCATE",
+    b"SQR",
+    b"MAX",
+    b"MIN",
+    b"MAXNUM",
+    b"RND",
+    b"EXTYPE",
+    b"EXLINE",
+    b"LBOUND",
+    b"UBOUND",
+    b"LEN",
+    b"ORD",
+    b"POS",
+    b"VAL",
 ];
 
 /// The text is the word, in letters of either case. The word is in capitals.

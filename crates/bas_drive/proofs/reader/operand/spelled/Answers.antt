@@ -1,4 +1,4 @@
-use Rattle.std.proofs.Common.{◌≡◌, ℕ, ◌+◌, ◌-◌, ◌^◌, ◌<◌, ◌≤◌, arith, lit<, get_or, Fits, w8, w32}
+use Rattle.std.proofs.Common.{ℕ, ◌^◌, ◌<◌, ◌≤◌, arith, lit<, get_or}
 use Rattle.std.proofs.Math.Nat.{pow-le-pow_right}
 use Rattle.bas_drive.proofs.reader.operand.spelled.Goals as goal
 

@@ -1,6 +1,5 @@
-use Rattle.std.proofs.Common.{◌≡◌, ◌∷◌, ◌∙◌, List, ap, sym, ℕ, Some}
+use Rattle.std.proofs.Common.{◌∙◌, List, ap, sym, Some}
 use Rattle.bas_drive.specs.declared.program.Term.{Term}
-use Rattle.bas_drive.specs.Bytes.{is_sign}
 use Rattle.bas_drive.specs.Form.{cut, terms_of}
 use Rattle.bas_drive.specs.Reading.{begins_with_sign, behind}
 use Rattle.bas_drive.proofs.Sums.{next_term, no_term, rest_signed, signed_end}
@@ -18,8 +17,8 @@ loop-sign-preserved c =
     record {
       signed = ap begins_with_sign split.ensures.signed ∙ rest_signed c.in-Some.piece.now;
       so_far = ap (λ (terms : List Term). behind terms (terms_of (cut split.result.1.now).1)) c.in_ok-push.ensures.items
-        ∙ next_term c.loop-sign.terms.items c.loop-sign.rest.now c.in-Some.piece.now split.result.0.now split.result.1.now c.in-Some.sign.now c.in-Some-operand_of.operand c.in-Some.ensures.cases.0 c.loop-sign.invariant.signed split.ensures.front split.ensures.signed (sym c.operand_of.ensures ∙ c.in-Some-operand_of.is)
-        ∙ c.loop-sign.invariant.so_far;
+          ∙ next_term c.loop-sign.terms.items c.loop-sign.rest.now c.in-Some.piece.now split.result.0.now split.result.1.now c.in-Some.sign.now c.in-Some-operand_of.operand c.in-Some.ensures.cases.0 c.loop-sign.invariant.signed split.ensures.front split.ensures.signed (sym c.operand_of.ensures ∙ c.in-Some-operand_of.is)
+          ∙ c.loop-sign.invariant.so_far;
     }
 
 pub returns : goal.returns

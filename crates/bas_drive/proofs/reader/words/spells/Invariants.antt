@@ -1,4 +1,4 @@
-use Rattle.std.proofs.Common.{◌≡◌, ◌+◌, ◌≤◌, length, drop}
+use Rattle.std.proofs.Common.{◌≡◌, drop}
 use Rattle.std.specs.Str.{str_to_ascii_uppercase}
 use Rattle.bas_drive.specs.Bytes.{same_text}
 use Rattle.bas_drive.proofs.reader.words.spells.Given as goal
