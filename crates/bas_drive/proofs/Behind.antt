@@ -1,7 +1,7 @@
 -- What is read behind what is there already.
 use Rattle.std.proofs.Common.{◌≡◌, ℕ, ◌+◌, List, [], ◌∷◌, ◌++◌, Option, Some, None, refl, ap, sym, append_assoc, arith, suc}
 use Rattle.std.specs.Option.{option_map}
-use Rattle.bas_drive.specs.Reading.{behind}
+use Rattle.bas_drive.specs.Rest.{behind}
 
 pub one_more : (n : ℕ) → 1 + n ≡ suc n
 one_more n = omega arith

@@ -7,7 +7,7 @@ use Rattle.bas_drive.specs.declared.program.Item.{Item}
 use Rattle.bas_drive.specs.declared.program.NumItem.{NumItem}
 use Rattle.bas_drive.specs.Bytes.{is_empty, is_line_end, is_space, lines_of, trimmed}
 use Rattle.bas_drive.specs.Form.{both, numbered, line_number_of, item_of, line_of, all_lines, is_end, is_program_after}
-use Rattle.bas_drive.specs.Reading.{behind}
+use Rattle.bas_drive.specs.Rest.{behind}
 use Rattle.bas_drive.proofs.Behind.{one_more, behind_more}
 
 -- where the first line ends

@@ -6,7 +6,7 @@ use Rattle.bas_drive.specs.declared.program.Operand.{Operand}
 use Rattle.bas_drive.specs.declared.program.Term.{Term}
 use Rattle.bas_drive.specs.Bytes.{is_sign, is_blank, is_empty}
 use Rattle.bas_drive.specs.Form.{Piece, both, cut, pieces_of, terms_of, sum_of, operand_of}
-use Rattle.bas_drive.specs.Reading.{begins_with_sign, behind}
+use Rattle.bas_drive.specs.Rest.{begins_with_sign, behind}
 use Rattle.bas_drive.proofs.Behind.{one_more, behind_more, behind_none}
 
 -- where the first sign of a text stands

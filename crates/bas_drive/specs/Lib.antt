@@ -1,6 +1,6 @@
 pub mod Bytes
 pub mod Form
-pub mod Reading
+pub mod Rest
 pub mod Meaning
 pub mod Report
 pub mod Run

@@ -2,7 +2,7 @@ ghost use Rattle.std.specs.Prelude.{◌≡◌, ◌&&◌, not, take, drop, IfOk};
 ghost use Rattle.std.specs.List.{position_or_len};
 ghost use Rattle.bas_drive.specs.Bytes.{is_blank, is_empty, is_sign};
 ghost use Rattle.bas_drive.specs.Form.{cut, sum_of, terms_of};
-ghost use Rattle.bas_drive.specs.Reading.{IsSigned, behind};
+ghost use Rattle.bas_drive.specs.Rest.{IsSigned, behind};
 
 use super::operand::operand_of;
 use super::text::{sign_place, trimmed};

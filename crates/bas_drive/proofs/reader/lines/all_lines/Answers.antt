@@ -2,7 +2,7 @@ use Rattle.std.proofs.Common.{◌∷◌, [], ◌++◌, ◌∙◌, List, ap, sym,
 use Rattle.bas_drive.specs.declared.program.NumItem.{NumItem}
 use Rattle.bas_drive.specs.Bytes.{lines_of}
 use Rattle.bas_drive.specs.Form.{all_lines, line_of}
-use Rattle.bas_drive.specs.Reading.{behind}
+use Rattle.bas_drive.specs.Rest.{behind}
 use Rattle.bas_drive.proofs.Lines.{next_line, no_line, lines_end, some_left, none_left}
 use Rattle.bas_drive.proofs.reader.lines.all_lines.Goals as goal
 

@@ -1,7 +1,7 @@
 use Rattle.std.proofs.Common.{◌≡◌, length}
 use Rattle.bas_drive.specs.Bytes.{lines_of}
 use Rattle.bas_drive.specs.Form.{all_lines}
-use Rattle.bas_drive.specs.Reading.{behind}
+use Rattle.bas_drive.specs.Rest.{behind}
 use Rattle.bas_drive.proofs.reader.lines.all_lines.Given as goal
 
 -- the lines so far and those of the rest are those of all the bytes

@@ -2,7 +2,7 @@ use Rattle.std.proofs.Common.{◌≡◌, ◌∷◌, [], ◌∙◌, ◌++◌, fal
 use Rattle.std.proofs.lemmas.Result.{IfOk-weaker}
 use Rattle.bas_drive.specs.declared.program.Term.{Term}
 use Rattle.bas_drive.specs.Form.{cut, terms_of, sum_of}
-use Rattle.bas_drive.specs.Reading.{begins_with_sign, behind}
+use Rattle.bas_drive.specs.Rest.{begins_with_sign, behind}
 use Rattle.bas_drive.proofs.Sums.{signed_sum, plain_sum, no_sum, rest_signed}
 use Rattle.bas_drive.proofs.reader.sum.sum_of.Goals as goal
 

@@ -1,7 +1,7 @@
 use Rattle.std.proofs.Common.{◌∙◌, List, ap, sym, Some}
 use Rattle.bas_drive.specs.declared.program.Term.{Term}
 use Rattle.bas_drive.specs.Form.{cut, terms_of}
-use Rattle.bas_drive.specs.Reading.{begins_with_sign, behind}
+use Rattle.bas_drive.specs.Rest.{begins_with_sign, behind}
 use Rattle.bas_drive.proofs.Sums.{next_term, no_term, rest_signed, signed_end}
 use Rattle.bas_drive.proofs.reader.sum.with_signed.Goals as goal
 

@@ -1,6 +1,6 @@
 use Rattle.std.proofs.Common.{◌≡◌, length}
 use Rattle.bas_drive.specs.Form.{cut, terms_of}
-use Rattle.bas_drive.specs.Reading.{IsSigned, behind}
+use Rattle.bas_drive.specs.Rest.{IsSigned, behind}
 use Rattle.bas_drive.proofs.reader.sum.with_signed.Given as goal
 
 -- the terms so far and those of the rest are those of all pieces

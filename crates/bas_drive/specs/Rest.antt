@@ -1,4 +1,4 @@
--- How far a text is read: what is there already, and what is still to come.
+-- What a reader has read so far, and the rest that it still reads.
 use Rattle.std.specs.Prelude.{ℕ, Bool, true, List, [], ◌∷◌, ◌++◌, Option, IsTrue}
 use Rattle.std.specs.Option.{option_map}
 use Rattle.bas_drive.specs.Bytes.{is_sign}
