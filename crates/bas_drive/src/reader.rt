@@ -1,6 +1,7 @@
 ghost use Rattle.std.specs.Prelude.{◌≡◌, IfOk};
 ghost use Rattle.bas_drive.specs.Form.{program_of};
 
+mod laws;
 mod line;
 mod lines;
 mod operand;
