@@ -4,3 +4,6 @@ pub mod Runs
 pub mod Steps
 pub mod Taking
 pub mod Values
+pub mod Behind
+pub mod Sums
+pub mod Lines

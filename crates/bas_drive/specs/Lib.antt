@@ -1,5 +1,7 @@
 pub mod Bytes
 pub mod Form
+pub mod Rest
+pub mod Examples
 pub mod Meaning
 pub mod Report
 pub mod Run
