@@ -148,3 +148,6 @@ impl Dec {
         text.copy_to(out)
     }
 }
+
+#[cfg(test)]
+mod tests;
