@@ -1,7 +1,11 @@
 // Laws of numbers: each holds for all numbers, and its function does nothing.
 ghost use Rattle.std.specs.Prelude.{◌≡◌, ℕ, ◌^◌, ◌<◌, ◌↔◌, ℤ, pos, ◌*ℤ◌, Some};
 ghost use Rattle.bas_dec.specs.Number.{Number, IsNumber, low};
+ghost use Rattle.std.specs.Cmp.{IsTotalOrder};
+ghost use Rattle.bas_dec.specs.Arithmetic.{sum_of, product_of, order_of};
 ghost use Rattle.bas_dec.specs.Fraction.{Fraction, SameValue, value_of, number_equal_to};
+
+use std::cmp::Ordering;
 
 /// `low c s` is a number exactly where it is in lowest form and has the value `c / 10^s`.
 pub fn low_finds_the_number()
@@ -16,4 +20,20 @@ pub fn numbers_have_one_form()
 /// `number_equal_to` is a number exactly where it has the value of the fraction.
 pub fn fractions_have_one_number()
     ensures { (a : Fraction) (x : Number) → 0 < a.denominator → (number_equal_to a ≡ Some x) ↔ (IsNumber x × SameValue (value_of x) a) }
+{}
+
+/// The order of numbers is total, and numbers that it calls equal are the same.
+pub fn numbers_are_in_order()
+    ensures total { IsTotalOrder order_of }
+    ensures equal { (x y : Number) → IsNumber x → IsNumber y → (order_of x y ≡ Ordering.Equal) ↔ (x ≡ y) }
+{}
+
+/// A sum does not depend on the order of its operands, with its faults.
+pub fn sums_commute()
+    ensures { (x y : Number) → sum_of x y ≡ sum_of y x }
+{}
+
+/// A product does not depend on the order of its operands, with its faults.
+pub fn products_commute()
+    ensures { (x y : Number) → product_of x y ≡ product_of y x }
 {}
