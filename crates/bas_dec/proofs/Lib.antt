@@ -19,3 +19,4 @@ pub mod Order
 pub mod Products
 pub mod Root
 pub mod CommonLaws
+pub mod ExactSums

@@ -1,9 +1,9 @@
 // Laws of numbers: each holds for all numbers, and its function does nothing.
-ghost use Rattle.std.specs.Prelude.{◌≡◌, ℕ, ◌^◌, ◌<◌, ◌↔◌, ℤ, pos, ◌*ℤ◌, Some};
+ghost use Rattle.std.specs.Prelude.{◌≡◌, ℕ, ◌^◌, ◌<◌, ◌↔◌, ℤ, pos, ◌*ℤ◌, Some, Ok};
 ghost use Rattle.bas_dec.specs.Number.{Number, IsNumber, low};
 ghost use Rattle.std.specs.Cmp.{IsTotalOrder};
-ghost use Rattle.bas_dec.specs.Arithmetic.{sum_of, product_of, order_of};
-ghost use Rattle.bas_dec.specs.Fraction.{Fraction, SameValue, value_of, number_equal_to};
+ghost use Rattle.bas_dec.specs.Arithmetic.{sum_of, difference_of, product_of, order_of};
+ghost use Rattle.bas_dec.specs.Fraction.{Fraction, SameValue, value_of, plus, minus, number_equal_to};
 
 use std::cmp::Ordering;
 
@@ -36,4 +36,15 @@ pub fn sums_commute()
 /// A product does not depend on the order of its operands, with its faults.
 pub fn products_commute()
     ensures { (x y : Number) → product_of x y ≡ product_of y x }
+{}
+
+/// A sum and a difference have exactly the value of the sum and the difference of their operands.
+pub fn sums_are_exact()
+    ensures sum { (x y z : Number) → sum_of x y ≡ Ok z → IsNumber z × SameValue (value_of z) (plus (value_of x) (value_of y)) }
+    ensures difference { (x y z : Number) → difference_of x y ≡ Ok z → IsNumber z × SameValue (value_of z) (minus (value_of x) (value_of y)) }
+{}
+
+/// To add a number and subtract it again gives the first one back, where neither overflows.
+pub fn subtraction_undoes_addition()
+    ensures { (x y z w : Number) → IsNumber x → sum_of x y ≡ Ok z → difference_of z y ≡ Ok w → w ≡ x }
 {}
