@@ -5,9 +5,12 @@
 //! outside: a call fails only where the count rises in that call.
 #![tactic(auto)]
 
+mod file;
+mod plan;
 mod sink;
 mod source;
 mod store;
+mod table;
 
 pub use sink::{Sink, SinkFail};
 pub use source::{Failed, Source};
