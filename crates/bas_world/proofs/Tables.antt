@@ -1,5 +1,5 @@
 -- A map from names to bytes, as the finite map of its entries.
-use Rattle.std.proofs.Common.{◌≡◌, ℕ, Bool, true, false, cond, List, [], ◌∷◌, Option, Some, None, Result, Ok, Err, refl, ap, sym, ◌∙◌, subst}
+use Rattle.std.proofs.Common.{◌≡◌, ℕ, Bool, cond, List, [], ◌∷◌, Option, Some, None, Result, Ok, Err, refl, ap, sym, ◌∙◌, subst}
 use Rattle.std.specs.Ordering.{nat_cmp, eq_by_cmp}
 use Rattle.std.specs.Cmp.{eq_by_cmp_equiv}
 use Rattle.std.specs.Cmp.Lexicographic.{slice_cmp, nat_list_cmp_total}
@@ -37,9 +37,9 @@ pub insert-table : (old new : Entries) (name bytes : List ℕ)
 insert-table old new name bytes updates =
     same_map nat_list_cmp_total (slice_cmp-IsAntisymmetric nat_cmp-IsAntisymmetric) _ _
     (λ q. get-table new q ∙ updates q
-      ∙ ap (λ (b : Bool). cond b (Some bytes) (lookup (at_name q) old)) ((eq_by_cmp_equiv nat_list_cmp_total).symm name q)
-      ∙ ap (cond (at_name q name) (Some bytes)) (sym (get-table old q))
-      ∙ sym (get-insert nat_list_cmp_total (from_entries old) name bytes q))
+    ∙ ap (λ (b : Bool). cond b (Some bytes) (lookup (at_name q) old)) ((eq_by_cmp_equiv nat_list_cmp_total).symm name q)
+    ∙ ap (cond (at_name q name) (Some bytes)) (sym (get-table old q))
+    ∙ sym (get-insert nat_list_cmp_total (from_entries old) name bytes q))
 
 -- a table that has nothing under the name, and else what the old one had
 pub remove-table : (old new : Entries) (name : List ℕ)
@@ -48,9 +48,9 @@ pub remove-table : (old new : Entries) (name : List ℕ)
 remove-table old new name updates =
     same_map nat_list_cmp_total (slice_cmp-IsAntisymmetric nat_cmp-IsAntisymmetric) _ _
     (λ q. get-table new q ∙ updates q
-      ∙ ap (λ (b : Bool). cond b None (lookup (at_name q) old)) ((eq_by_cmp_equiv nat_list_cmp_total).symm name q)
-      ∙ ap (cond (at_name q name) None) (sym (get-table old q))
-      ∙ sym (get-remove nat_list_cmp_total (from_entries old) name q))
+    ∙ ap (λ (b : Bool). cond b None (lookup (at_name q) old)) ((eq_by_cmp_equiv nat_list_cmp_total).symm name q)
+    ∙ ap (cond (at_name q name) None) (sym (get-table old q))
+    ∙ sym (get-remove nat_list_cmp_total (from_entries old) name q))
 
 -- a table that has a file under a name cannot be without it
 pub there-table : (es : Entries) (name : List ℕ) (files : Files) → from_entries es ≡ files → IsSome (get files name) → None ≡ lookup (at_name name) es → ⊥

@@ -1,5 +1,6 @@
 ghost use Rattle.std.specs.Prelude.{◌≡◌, ◌==◌, ◌+◌};
 ghost use Rattle.std.specs.List.{list_any};
+ghost use Rattle.bas_world.specs.Count.{CountMoves};
 ghost use Rattle.bas_world.specs.Plan.{plan_of, fails_next, after_call};
 
 use std::marker::Model;
@@ -37,6 +38,7 @@ impl CallPlan {
     pub fn begin_call(&mut self) -> bool
         ensures failed { result ≡ fails_next self.old }
         ensures counted { self.new ≡ after_call self.old }
+        ensures moves { CountMoves result self.old.faults self.new.faults }
     {
         let failed = lists_next(&self.listed, self.calls);
         self.calls = self.calls.saturating_add(1);

@@ -1,9 +1,12 @@
-ghost use Rattle.std.specs.Prelude.{◌≡◌, ◌≤◌, [], length, take, drop, ◌++◌, OnOk, OnErr};
+ghost use Rattle.std.specs.Prelude.{◌≡◌, ◌≤◌, [], length, take, drop, ◌++◌, OnOk, OnErr, false};
 ghost use Rattle.std.specs.Option.{option_map};
 ghost use Rattle.std.specs.FinMap as map;
+ghost use Rattle.bas_world.specs.Faults.{store_failed};
 ghost use Rattle.bas_world.specs.Files.{HasFile, bytes_at, size_of, with_file, without_file, overwritten, read_length};
 
+use crate::copy::copy_from;
 use crate::file::FileBytes;
+use crate::store::StoreFail;
 use bas_base::FileName;
 use std::alloc::{AllocError, Global};
 use std::collections::BTreeMap;
@@ -56,7 +59,18 @@ impl FileTable {
         Ok(())
     }
 
-    pub fn create(&mut self, name: FileName) -> Result<(), AllocError>
+    pub fn make_empty(&mut self, name: FileName) -> Result<(), StoreFail>
+        ensures ok { OnOk result (self.new ≡ with_file self.old name []) }
+        ensures err { OnErr result (self.new ≡ self.old) }
+        ensures failed { store_failed result ≡ false }
+    {
+        match self.create(name) {
+            Ok(()) => Ok(()),
+            Err(_) => Err(StoreFail::Memory),
+        }
+    }
+
+    fn create(&mut self, name: FileName) -> Result<(), AllocError>
         ensures ok { OnOk result (self.new ≡ with_file self.old name []) }
         ensures err { OnErr result (self.new ≡ self.old) }
     {
@@ -80,7 +94,20 @@ impl FileTable {
         }
     }
 
-    pub fn write_at(&mut self, name: FileName, at: usize, bytes: &[u8]) -> Result<(), AllocError>
+    // Writes the bytes at `at`. A place past all memory is as want of memory.
+    pub fn store_at(&mut self, name: FileName, at: u64, bytes: &[u8]) -> Result<(), StoreFail>
+        requires { HasFile self.old name }
+        ensures ok { OnOk result (self.new ≡ with_file self.old name (overwritten (bytes_at self.old name) at bytes.now)) }
+        ensures err { OnErr result (self.new ≡ self.old) }
+        ensures failed { store_failed result ≡ false }
+    {
+        match self.write_at(name, at as usize, bytes) {
+            Ok(()) => Ok(()),
+            Err(_) => Err(StoreFail::Memory),
+        }
+    }
+
+    fn write_at(&mut self, name: FileName, at: usize, bytes: &[u8]) -> Result<(), AllocError>
         requires { HasFile self.old name }
         ensures ok { OnOk result (self.new ≡ with_file self.old name (overwritten (bytes_at self.old name) at bytes.now)) }
         ensures err { OnErr result (self.new ≡ self.old) }
@@ -92,12 +119,12 @@ impl FileTable {
         Ok(())
     }
 
-    pub fn cut(&mut self, name: FileName, len: usize)
+    pub fn cut(&mut self, name: FileName, len: u64)
         requires { HasFile self.old name }
         ensures { self.new ≡ with_file self.old name (take len (bytes_at self.old name)) }
     {
         match self.table.get_mut(&name) {
-            Some(file) => file.cut(len),
+            Some(file) => file.cut(len as usize),
             None => unreachable!(),
         }
     }
@@ -112,19 +139,4 @@ impl FileTable {
             None => 0,
         }
     }
-}
-
-// Copies the bytes from `at` on, as many as fit, and answers how many there were.
-pub fn copy_from(bytes: &[u8], at: u64, buf: &mut [u8]) -> usize
-    ensures within { result ≤ length buf.old }
-    ensures count { result ≡ read_length bytes.now at (length buf.old) }
-    ensures bytes { buf.new ≡ take result (drop at bytes.now) ++ drop result buf.old }
-{
-    if at >= bytes.len() as u64 {
-        return 0;
-    }
-    let rest = &bytes[at as usize..];
-    let count = rest.len().min(buf.len());
-    buf[..count].copy_from_slice(&rest[..count]);
-    count
 }

@@ -1,4 +1,4 @@
-use Rattle.std.proofs.Common.{◌≡◌, ℕ, ◌+◌, max, length, ◌∙◌, ap, arith}
+use Rattle.std.proofs.Common.{◌≡◌, ◌+◌, max, length, ◌∙◌, ap, arith}
 use Rattle.std.specs.Vec.{vec_len}
 use Rattle.bas_world.specs.Files.{overwritten}
 use Rattle.bas_world.proofs.Pieces.{filled-overwritten, written-back}

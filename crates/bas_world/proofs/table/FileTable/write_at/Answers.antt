@@ -14,5 +14,5 @@ returns-clause-ok c =
 pub returns-in_err-write_at-in-Some-clause-err : goal.returns-in_err-write_at-in-Some-clause-err
 returns-in_err-write_at-in-Some-clause-err c =
     OnErr-always _ (
-      unchanged-table c.self.inside.table.entries _ c.args.name c.in-Some.file.now c.write_at.new.self _
-      c.self.view_is c.in-Some.ensures.value ((c.get_mut.follows.holds c.write_at.new.self).0) c.in_err-write_at-in-Some.ensures.err)
+    unchanged-table c.self.inside.table.entries _ c.args.name c.in-Some.file.now c.write_at.new.self _
+    c.self.view_is c.in-Some.ensures.value ((c.get_mut.follows.holds c.write_at.new.self).0) c.in_err-write_at-in-Some.ensures.err)
