@@ -15,7 +15,7 @@ use std::alloc::Global;
 use std::marker::Model;
 
 /// A store in memory, of which the calls with the listed numbers fail.
-#[derive(Drop)]
+#[derive(Debug, Drop)]
 pub struct MemStore {
     table: FileTable,
     calls: CallPlan,

@@ -13,7 +13,7 @@ use std::alloc::Global;
 use std::marker::Model;
 
 /// A store in memory that never fails.
-#[derive(Drop)]
+#[derive(Debug, Drop)]
 pub struct SureStore {
     table: FileTable,
 }

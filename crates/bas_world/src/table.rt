@@ -13,7 +13,7 @@ use std::collections::BTreeMap;
 use std::marker::Model;
 
 // Files in memory, in the order of their names.
-#[derive(Drop)]
+#[derive(Debug, Drop)]
 pub struct FileTable {
     alloc: Global,
     table: BTreeMap<FileName, FileBytes>,
