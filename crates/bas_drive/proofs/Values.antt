@@ -10,7 +10,7 @@ use Rattle.bas_drive.specs.declared.program.Term.{Term}
 
 -- 0 is a number
 pub low_zero : low (pos 0) 0 ≡ Some unset
-unfolding stripped
+unfolding low stripped
 low_zero = refl
 
 -- x with the term behind it
