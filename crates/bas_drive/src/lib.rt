@@ -19,3 +19,6 @@ mod write;
 
 pub use status::Status;
 pub use top::basic_words;
+
+#[cfg(test)]
+mod tests;
