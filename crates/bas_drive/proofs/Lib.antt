@@ -1,3 +1,4 @@
+pub mod AnswerLaws
 pub mod Headlines
 pub mod Reading
 pub mod Runs

@@ -7,6 +7,7 @@
 
 mod ending;
 mod file;
+mod laws;
 mod program;
 mod reader;
 mod report;
