@@ -1,24 +1,21 @@
 -- Laws of sums, products and the order.
-use Rattle.std.proofs.Common.{◌≡◌, ℕ, zero, suc, ◌+◌, ◌-◌, ◌*◌, ◌/◌, ◌^◌, ◌<◌, ◌≤◌, arith, refl, ap, ◌∙◌, sym, ℤ, pos, negsuc, neg_ℤ, ◌+ℤ◌, ◌-ℤ◌, ◌*ℤ◌, Result, Ok, Err, Option, Some, None, ◌⊎◌, inl, inr}
-use Rattle.std.specs.Prelude.{unsigned_abs, max, ok_or}
-use Rattle.std.specs.Ordering.{int_cmp, ordering_reverse}
+use Rattle.std.proofs.Common.{◌≡◌, ℕ, ◌+◌, ◌-◌, ◌^◌, ◌<◌, arith, refl, ap, ◌∙◌, sym, ℤ, pos, ◌+ℤ◌, ◌*ℤ◌, Result, Ok, Err, ◌⊎◌, inl, inr}
+use Rattle.std.specs.Prelude.{unsigned_abs, max}
+use Rattle.std.specs.Ordering.{int_cmp}
 use Rattle.std.specs.Cmp.{IsTotalOrder}
-use Rattle.std.specs.declared.cmp.Ordering.{Ordering}
 use Rattle.std.specs.declared.cmp.Ordering.TheVariants.{Less, Equal}
 use Rattle.std.proofs.lemmas.Cmp.{int_cmp_total, tied_itself}
 use Rattle.std.proofs.lemmas.Map.Lookups.{exact_signed}
 use Rattle.std.proofs.lemmas.Bool.{cases_lt}
 use Rattle.std.proofs.Math.IntN.{+ℤ_comm, *ℤ_comm}
-use borrow.Author.Differences.{up, down, same_in, sum_is_lem, product_is, neg_is}
-use Rattle.bas_dec.specs.Number.{Number, IsNumber, limit, low}
-use Rattle.bas_dec.specs.Arithmetic.{and_then, bounded, aligned, number_at, at_larger_scale, sum_of, difference_of, product_of, kept_places, rounded_within, order_of}
-use Rattle.bas_dec.specs.Fraction.{SameValue, value_of, plus, minus}
+use Rattle.bas_dec.specs.Number.{Number, IsNumber, limit}
+use Rattle.bas_dec.specs.Arithmetic.{and_then, bounded, aligned, number_at, sum_of, product_of, kept_places, rounded_within, order_of}
 use Rattle.bas_dec.specs.declared.fault.DecFault.{DecFault}
 use Rattle.bas_dec.specs.declared.fault.DecFault.TheVariants.{Overflow}
-use Rattle.bas_dec.proofs.Integers.{cancel, times_cancel, times_twice, times_turned, sum_times, difference_times}
-use Rattle.bas_dec.proofs.Powers.{ten_to_positive, ten_to_split, product_positive}
+use Rattle.bas_dec.proofs.Integers.{times_turned}
+use Rattle.bas_dec.proofs.Powers.{ten_to_positive}
 use Rattle.bas_dec.proofs.Bounds.{bounded_within, bounded_beyond}
-use Rattle.bas_dec.proofs.Low.{IsNumberOf, low_sound, number_unique}
+use Rattle.bas_dec.proofs.Low.{number_unique}
 use Rattle.bas_dec.proofs.Order.{order_turned, order_scaled}
 
 -- ---- the order

@@ -1,5 +1,5 @@
 -- A sum and a difference have the exact value, so the one undoes the other.
-use Rattle.std.proofs.Common.{◌≡◌, ℕ, zero, suc, ◌+◌, ◌-◌, ◌*◌, ◌^◌, ◌<◌, ◌≤◌, arith, refl, ap, ◌∙◌, sym, ℤ, pos, neg_ℤ, ◌+ℤ◌, ◌-ℤ◌, ◌*ℤ◌, Result, Ok, Err, Option, Some, None}
+use Rattle.std.proofs.Common.{◌≡◌, ℕ, ◌+◌, ◌-◌, ◌*◌, ◌^◌, ◌<◌, ◌≤◌, arith, refl, ap, ◌∙◌, sym, ℤ, pos, neg_ℤ, ◌+ℤ◌, ◌-ℤ◌, ◌*ℤ◌, Result, Ok, Err, Option, Some, None}
 use Rattle.std.specs.Prelude.{max, ok_or}
 use borrow.Author.Differences.{up, down, same_in, sum_is_lem, product_is, neg_is}
 use Rattle.bas_dec.specs.Number.{Number, IsNumber, low}

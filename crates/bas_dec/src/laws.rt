@@ -1,10 +1,13 @@
 // Laws of numbers: each holds for all numbers, and its function does nothing.
+mod rows;
+
 ghost use Rattle.std.specs.Prelude.{◌≡◌, ℕ, ◌^◌, ◌<◌, ◌↔◌, ℤ, pos, ◌*ℤ◌, Some, Ok};
 ghost use Rattle.bas_dec.specs.Number.{Number, IsNumber, low};
 ghost use Rattle.std.specs.Cmp.{IsTotalOrder};
 ghost use Rattle.bas_dec.specs.Arithmetic.{sum_of, difference_of, product_of, order_of};
 ghost use Rattle.bas_dec.specs.Fraction.{Fraction, SameValue, value_of, plus, minus, number_equal_to};
 
+pub use rows::{worked_limits, worked_quotients, worked_roundings};
 use std::cmp::Ordering;
 
 /// `low c s` is a number exactly where it is in lowest form and has the value `c / 10^s`.
