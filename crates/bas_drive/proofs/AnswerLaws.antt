@@ -1,12 +1,12 @@
 -- The answer to the words, row by row.
-use Rattle.std.proofs.Common.{◌≡◌, ◌≢◌, ◌↔◌, ◌⊎◌, ℕ, List, [], ◌∷◌, Option, Some, None, Result, Ok, Err, refl, sym, ap, subst, ◌∙◌, inl, inr}
+use Rattle.std.proofs.Common.{◌≡◌, ◌≢◌, ◌↔◌, ◌⊎◌, ℕ, List, [], ◌∷◌, Option, Some, None, Result, Ok, Err, refl, sym, ap, ◌∙◌, inl, inr}
 use Rattle.std.specs.FinMap.{get}
 use Rattle.bas_world.specs.Files.{Files}
 use Rattle.bas_dec.specs.Number.{Number}
 use Rattle.bas_dec.specs.declared.fault.DecFault.{DecFault}
 use Rattle.bas_drive.specs.Answer.{command_of, command_answer, file_answer, program_answer, answer_of}
 use Rattle.bas_drive.specs.Form.{program_of}
-use Rattle.bas_drive.specs.Meaning.{Variables, Outcome, outcome_of, outcome_at, with_result, value_of, with_value, printing, print_line, meaning_of, overflow_at, silent, all_zero}
+use Rattle.bas_drive.specs.Meaning.{Variables, Outcome, outcome_of, outcome_at, with_result, value_of, with_value, printing, print_line, meaning_of, overflow_at, all_zero}
 use Rattle.bas_drive.specs.Report.{status_of}
 use Rattle.bas_drive.specs.declared.ending.Ending.{Ending}
 use Rattle.bas_drive.specs.declared.ending.Ending.TheVariants as ending
@@ -81,9 +81,10 @@ at_file words files name go = ap (λ c. command_answer c files) go
 pub missing_row :
     (words : List (List ℕ)) (files : Files) (name : List ℕ) → command_of words ≡ Some (Go name) → (status_of (answer_of words files).ending ≡ status.FileMissing) ↔ (get files name ≡ None)
 missing_row words files name go =
-    let at = at_file words files name go in
-    (λ is. missing_only name (get files name) (ap (λ a. status_of a.ending) (sym at) ∙ is),
-     λ none. ap (λ a. status_of a.ending) at ∙ ap (λ f. status_of (file_answer name f).ending) none)
+    let at = at_file words files name go in (
+      λ is. missing_only name (get files name) (ap (λ a. status_of a.ending) (sym at) ∙ is),
+      λ none. ap (λ a. status_of a.ending) at ∙ ap (λ f. status_of (file_answer name f).ending) none,
+    )
 
 -- the answer to `go` for a file that is there is that of its text
 at_text : (words : List (List ℕ)) (files : Files) (name bytes : List ℕ) → command_of words ≡ Some (Go name) → get files name ≡ Some bytes → answer_of words files ≡ program_answer name (program_of bytes)
@@ -93,9 +94,10 @@ pub refused_row :
     (words : List (List ℕ)) (files : Files) (name bytes : List ℕ) → command_of words ≡ Some (Go name) → get files name ≡ Some bytes →
     (status_of (answer_of words files).ending ≡ status.SourceRefused) ↔ (program_of bytes ≡ None)
 refused_row words files name bytes go there =
-    let at = at_text words files name bytes go there in
-    (λ is. refused_only name (program_of bytes) (ap (λ a. status_of a.ending) (sym at) ∙ is),
-     λ none. ap (λ a. status_of a.ending) at ∙ ap (λ p. status_of (program_answer name p).ending) none)
+    let at = at_text words files name bytes go there in (
+      λ is. refused_only name (program_of bytes) (ap (λ a. status_of a.ending) (sym at) ∙ is),
+      λ none. ap (λ a. status_of a.ending) at ∙ ap (λ p. status_of (program_answer name p).ending) none,
+    )
 
 pub program_row :
     (words : List (List ℕ)) (files : Files) (name bytes : List ℕ) (program : List NumItem) → command_of words ≡ Some (Go name) → get files name ≡ Some bytes → program_of bytes ≡ Some program →

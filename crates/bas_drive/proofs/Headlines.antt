@@ -1,12 +1,12 @@
 -- From the ending of a command, and what was told of it, to the promises of the top call.
-use Rattle.std.proofs.Common.{◌≡◌, ◌≢◌, ℕ, List, Option, Some, None, IfSome, MatchBool, Bool, true, false, refl, sym, ap, subst, ◌∙◌}
+use Rattle.std.proofs.Common.{◌≡◌, ◌≢◌, ℕ, List, Option, Some, None, IfSome, true, refl, ap, subst}
 use Rattle.bas_world.specs.Files.{Files}
 use Rattle.bas_world.specs.Count.{CountMoves, Rose}
 use Rattle.bas_drive.specs.Took.{TookAll, TookPrefix}
 use Rattle.bas_drive.specs.Meaning.{Outcome}
 use Rattle.bas_drive.specs.Report.{status_of, report_of}
-use Rattle.bas_drive.specs.Run.{RunOf, is_failure, is_output_fault, is_store_fault}
-use Rattle.bas_drive.specs.Headline.{IsTold, IsAnswered, AnswersOrGivesUp, TookReportPrefix, gave_up, is_report_fault}
+use Rattle.bas_drive.specs.Run.{RunOf, is_output_fault, is_store_fault}
+use Rattle.bas_drive.specs.Headline.{IsTold, IsAnswered, AnswersOrGivesUp, TookReportPrefix, is_report_fault}
 use Rattle.bas_drive.specs.Headline.IsTold.{Whole, CutByFault, CutByMemory}
 use Rattle.bas_drive.specs.declared.ending.Ending.{Ending}
 use Rattle.bas_drive.specs.declared.ending.Ending.TheVariants as ending

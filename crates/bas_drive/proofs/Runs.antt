@@ -1,20 +1,19 @@
 -- A run, line by line.
-use Rattle.std.proofs.Common.{◌≡◌, ℕ, suc, ◌+◌, ◌<◌, ◌≤◌, List, [], ◌∷◌, ◌++◌, length, drop, get_or, Option, None, unwrap_or, Bool, true, false, refl, sym, ap, subst, ◌∙◌, append_assoc, append-nil, add-one, MatchBool}
+use Rattle.std.proofs.Common.{◌≡◌, ℕ, suc, ◌+◌, ◌<◌, ◌≤◌, List, [], ◌∷◌, ◌++◌, length, drop, get_or, Option, unwrap_or, Bool, true, false, refl, sym, ap, subst, ◌∙◌, append_assoc, append-nil, add-one, MatchBool}
 use Rattle.std.proofs.Math.Seq.{drop-cons}
 use Rattle.std.proofs.lemmas.List.{drop_all}
 use Rattle.std.specs.Ordering.{nat_cmp}
 use Rattle.std.specs.Cmp.Lexicographic.{slice_cmp}
-use Rattle.std.specs.BTreeMap.{BTreeMap, get, IsEmpty}
+use Rattle.std.specs.BTreeMap.{BTreeMap, IsEmpty}
 use Rattle.std.specs.Map.{lookup}
 use Rattle.std.specs.BTreeMap.{is_at}
 use Rattle.bas_dec.specs.Number.{Number}
 use Rattle.bas_drive.specs.Took.{TookAll, TookPrefix}
 use Rattle.bas_drive.specs.Meaning.{Variables, Outcome, unset, all_zero, outcome_of, outcome_at, printing, silent}
-use Rattle.bas_drive.specs.Run.{values_in, GoesOn, EndsAt, StepOf, RunOf, is_failure}
+use Rattle.bas_drive.specs.Run.{values_in, GoesOn, StepOf, RunOf, is_failure}
 use Rattle.bas_drive.specs.Run.StepOf.{Passes, Comes, Fails}
 use Rattle.bas_drive.specs.declared.ending.Ending.{Ending}
 use Rattle.bas_drive.specs.declared.ending.Ending.TheVariants as ends
-use Rattle.bas_drive.specs.declared.step.Step.{Step}
 use Rattle.bas_drive.specs.declared.step.Step.TheVariants.{Next, Ends}
 use Rattle.bas_drive.specs.declared.program.NumItem.{NumItem}
 use Rattle.bas_drive.proofs.Taking.{TookAll-none, TookAll-then, TookPrefix-front, TookPrefix-then}

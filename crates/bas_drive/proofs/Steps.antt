@@ -1,12 +1,11 @@
 -- What one line does, case by case.
-use Rattle.std.proofs.Common.{◌≡◌, ℕ, List, [], ◌∷◌, ◌++◌, Option, Some, None, unwrap_or, Bool, true, false, cond, Result, Ok, Err, refl, sym, ap, subst, ◌∙◌, arith}
-use Rattle.std.specs.Ordering.{nat_cmp, is_eq}
+use Rattle.std.proofs.Common.{◌≡◌, ℕ, List, [], Option, Some, unwrap_or, Bool, true, false, cond, Ok, Err, refl, sym, ap, subst, ◌∙◌, arith}
+use Rattle.std.specs.Ordering.{nat_cmp}
 use Rattle.std.specs.Cmp.Lexicographic.{slice_cmp, texts_ties}
-use Rattle.std.specs.BTreeMap.{BTreeMap, get, Updates, is_at}
+use Rattle.std.specs.BTreeMap.{BTreeMap, get, is_at}
 use Rattle.bas_dec.specs.Number.{Number}
 use Rattle.bas_dec.specs.declared.fault.DecFault.{DecFault}
-use Rattle.bas_drive.specs.Bytes.{same_text}
-use Rattle.bas_drive.specs.Meaning.{Variables, Outcome, unset, with_value, value_of, print_line, overflow_at, with_result, outcome_at, printing, silent}
+use Rattle.bas_drive.specs.Meaning.{Variables, Outcome, unset, with_value, value_of, print_line, overflow_at, with_result, outcome_at, printing}
 use Rattle.bas_world.specs.Count.{CountMoves}
 use Rattle.bas_drive.specs.Took.{TookAll, TookPrefix}
 use Rattle.bas_drive.specs.Run.{values_in, GoesOn, EndsAt, IsAssigned, StepOf, is_failure, is_output_fault, is_store_fault, step_is}

@@ -1,5 +1,5 @@
 -- The value of a sum, term by term.
-use Rattle.std.proofs.Common.{◌≡◌, ℕ, ◌+◌, ◌<◌, ◌≤◌, List, [], ◌∷◌, length, drop, get_or, suc, Result, Ok, Err, Some, Option, if◌then◌else◌, refl, sym, ap, ◌∙◌, pos, add-one}
+use Rattle.std.proofs.Common.{◌≡◌, ℕ, ◌+◌, ◌<◌, ◌≤◌, List, [], ◌∷◌, length, drop, get_or, suc, Result, Ok, Err, Some, if◌then◌else◌, refl, sym, ap, ◌∙◌, pos, add-one}
 use Rattle.std.proofs.Math.Seq.{drop-cons}
 use Rattle.std.proofs.lemmas.List.{drop_all}
 use Rattle.bas_dec.specs.Number.{Number, low, stripped}

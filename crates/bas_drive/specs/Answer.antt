@@ -10,7 +10,6 @@ use Rattle.bas_drive.specs.Meaning.{Outcome, silent, meaning_of}
 use Rattle.bas_drive.specs.declared.program.NumItem.{NumItem}
 use Rattle.bas_drive.specs.declared.words.Command.{Command}
 use Rattle.bas_drive.specs.declared.words.Command.TheVariants.{Go}
-use Rattle.bas_drive.specs.declared.ending.Ending.{Ending}
 use Rattle.bas_drive.specs.declared.ending.Ending.TheVariants.{Usage, Missing, Refused}
 
 -- the name of a source file: a file name of at most 64 bytes that ends in `.bas`

@@ -1,5 +1,5 @@
 -- What the top call promises.
-use Rattle.std.specs.Prelude.{◌≡◌, ℕ, ◌==◌, ◌||◌, Bool, true, false, IsTrue, MatchBool, List, Option}
+use Rattle.std.specs.Prelude.{◌≡◌, ℕ, ◌==◌, ◌||◌, Bool, true, false, MatchBool, List, Option}
 use Rattle.bas_drive.specs.Took.{TookAll, TookPrefix}
 use Rattle.bas_drive.specs.Meaning.{Outcome}
 use Rattle.bas_drive.specs.Report.{status_of, report_of, code_of}

@@ -259,7 +259,14 @@ fn programs(rt: HostRuntime) -> Result<(), Fail> {
         let mut input = SureSource::new(Vec::new(alloc));
         let mut out = SureSink::new(alloc);
         let mut report = SureSink::new(alloc);
-        let status = basic_words(alloc, words.as_slice(), &mut store, &mut input, &mut out, &mut report);
+        let status = basic_words(
+            alloc,
+            words.as_slice(),
+            &mut store,
+            &mut input,
+            &mut out,
+            &mut report,
+        );
         assert_eq!(rt; status, case.status);
         assert_eq!(rt; out.bytes(), case.output);
         assert_eq!(rt; report.bytes(), case.report);
@@ -305,8 +312,13 @@ fn each_store_call_fails(rt: HostRuntime) -> Result<(), Fail> {
     assert_eq!(rt; store.calls(), 2);
     for call in 1..=2u64 {
         let fails = vec![in alloc; call]?;
-        let (status, _, out, report) =
-            fails_at(alloc, SUMS, fails, Vec::new(alloc), Vec::new(alloc))?;
+        let (status, _, out, report) = fails_at(
+            alloc,
+            SUMS,
+            fails,
+            Vec::new(alloc),
+            Vec::new(alloc),
+        )?;
         assert_eq!(rt; status, Status::StoreFault);
         assert_eq!(rt; out.bytes(), b"".as_slice());
         assert_eq!(rt; report.bytes(), b"store fault\n".as_slice());
@@ -320,8 +332,13 @@ fn each_output_call_fails(rt: HostRuntime) -> Result<(), Fail> {
     let whole = b"-8 \n 2 \n 42 \n";
     for call in 1..=6u64 {
         let fails = vec![in alloc; call]?;
-        let (status, _, out, report) =
-            fails_at(alloc, SUMS, Vec::new(alloc), fails, Vec::new(alloc))?;
+        let (status, _, out, report) = fails_at(
+            alloc,
+            SUMS,
+            Vec::new(alloc),
+            fails,
+            Vec::new(alloc),
+        )?;
         assert_eq!(rt; status, Status::OutputFault);
         assert!(rt; whole.as_slice().starts_with(out.bytes()));
         assert!(rt; out.bytes().len() < whole.len());
@@ -377,7 +394,10 @@ fn commands(rt: HostRuntime) -> Result<(), Fail> {
         &["go", ".bas"],
         &["go", "a b.bas"],
         &["go", "a.bas", "a.bas"],
-        &["go", "aaaaaaaaaaaaaaaaaaaaaaaaaaaaaaaaaaaaaaaaaaaaaaaaaaaaaaaaaaaaa.bas"],
+        &[
+            "go",
+            "aaaaaaaaaaaaaaaaaaaaaaaaaaaaaaaaaaaaaaaaaaaaaaaaaaaaaaaaaaaaa.bas",
+        ],
     ];
     for texts in &no_commands {
         let (status, report) = answer(alloc, texts)?;

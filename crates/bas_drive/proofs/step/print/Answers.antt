@@ -1,4 +1,4 @@
-use Rattle.std.proofs.Common.{List, [], ◌∷◌, ◌++◌, subst}
+use Rattle.std.proofs.Common.{[], ◌∷◌, ◌++◌, subst}
 use Rattle.bas_drive.specs.Took.{TookPrefix}
 use Rattle.bas_drive.proofs.Taking.{TookPrefix-front, TookPrefix-then, text_at}
 use Rattle.bas_drive.proofs.step.print.Goals as goal
