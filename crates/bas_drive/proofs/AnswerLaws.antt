@@ -1,13 +1,14 @@
 -- The answer to the words, row by row.
-use Rattle.std.proofs.Common.{◌≡◌, ◌≢◌, ◌↔◌, ◌⊎◌, ℕ, List, [], ◌∷◌, Option, Some, None, Result, Ok, Err, refl, sym, ap, ◌∙◌, inl, inr}
+use Rattle.std.proofs.Common.{◌≡◌, ◌≢◌, ◌↔◌, ◌⊎◌, ℕ, List, [], ◌∷◌, Option, Some, None, Result, Ok, Err, refl, sym, ap, subst, ◌∙◌, inl, inr}
 use Rattle.std.specs.FinMap.{get}
 use Rattle.bas_world.specs.Files.{Files}
 use Rattle.bas_dec.specs.Number.{Number}
 use Rattle.bas_dec.specs.declared.fault.DecFault.{DecFault}
-use Rattle.bas_drive.specs.Answer.{command_of, command_answer, file_answer, program_answer, answer_of}
+use Rattle.bas_drive.specs.Answer.{command_of, command_answer, file_answer, program_answer, answer_of, FileEnding}
 use Rattle.bas_drive.specs.Form.{program_of}
 use Rattle.bas_drive.specs.Meaning.{Variables, Outcome, outcome_of, outcome_at, with_result, value_of, with_value, printing, print_line, meaning_of, overflow_at, all_zero}
 use Rattle.bas_drive.specs.Report.{status_of}
+use Rattle.bas_drive.specs.Run.{RunOf}
 use Rattle.bas_drive.specs.declared.ending.Ending.{Ending}
 use Rattle.bas_drive.specs.declared.ending.Ending.TheVariants as ending
 use Rattle.bas_drive.specs.declared.status.Status.{Status}
@@ -103,3 +104,27 @@ pub program_row :
     (words : List (List ℕ)) (files : Files) (name bytes : List ℕ) (program : List NumItem) → command_of words ≡ Some (Go name) → get files name ≡ Some bytes → program_of bytes ≡ Some program →
     answer_of words files ≡ meaning_of program
 program_row words files name bytes program go there is_program = at_text words files name bytes go there ∙ ap (λ p. program_answer name p) is_program
+
+-- the ending of a run, or of a refused text, is one that `go` can have
+run_can_end : (name : List ℕ) (e : Ending) → RunEnding e → FileEnding name e
+run_can_end name e (inl ended) = subst (λ v. FileEnding name v) (sym ended) tt
+run_can_end name e (inr stopped) = subst (λ v. FileEnding name v) (sym stopped.1) (refl, refl)
+
+program_can_end : (name : List ℕ) (p : Option (List NumItem)) → FileEnding name (program_answer name p).ending
+program_can_end name None = refl
+program_can_end name (Some program) = run_can_end name (meaning_of program).ending (ends_or_overflows program all_zero)
+
+-- what a source file's run comes to is one of these endings, too
+pub source_can_end : (name : List ℕ) (p : Option (List NumItem)) (before now : Option (List ℕ)) (e : Ending) → RunOf (program_answer name p) before now e → FileEnding name e
+source_can_end name p before now ending.StoreFault run = tt
+source_can_end name p before now ending.OutputFault run = tt
+source_can_end name p before now ending.Memory run = tt
+source_can_end name p before now ending.Ended run = tt
+source_can_end name p before now (ending.Stopped at) run = subst (λ v. FileEnding name v) (sym run.0) (program_can_end name p)
+source_can_end name p before now ending.Usage run = subst (λ v. FileEnding name v) (sym run.0) (program_can_end name p)
+source_can_end name p before now (ending.Missing other) run = subst (λ v. FileEnding name v) (sym run.0) (program_can_end name p)
+source_can_end name p before now (ending.Refused other) run = subst (λ v. FileEnding name v) (sym run.0) (program_can_end name p)
+
+-- what running a program comes to is one of these endings
+pub run_can_end_in : (name : List ℕ) (program : List NumItem) (before now : Option (List ℕ)) (e : Ending) → RunOf (meaning_of program) before now e → FileEnding name e
+run_can_end_in name program before now e run = source_can_end name (Some program) before now e run

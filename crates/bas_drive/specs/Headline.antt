@@ -1,9 +1,11 @@
 -- What the top call promises.
-use Rattle.std.specs.Prelude.{◌≡◌, ℕ, ◌==◌, ◌||◌, Bool, true, false, MatchBool, List, Option}
+use Rattle.std.specs.Prelude.{◌≡◌, ℕ, ◌==◌, ◌||◌, ◌⊎◌, Bool, true, false, MatchBool, List, Option}
+use Rattle.bas_drive.specs.Answer.{command_of, CanEnd}
 use Rattle.bas_drive.specs.Took.{TookAll, TookPrefix}
 use Rattle.bas_drive.specs.Meaning.{Outcome}
 use Rattle.bas_drive.specs.Report.{status_of, report_of, code_of}
 use Rattle.bas_drive.specs.declared.ending.Ending.{Ending}
+use Rattle.bas_drive.specs.declared.ending.Ending.TheVariants as ends
 use Rattle.bas_drive.specs.declared.status.Status.{Status}
 use Rattle.bas_drive.specs.declared.status.Status.TheVariants.{Ended, Stopped, Usage, SourceRefused, LinkRefused, ImageRefused, LinesSpent, StoreFault, InputFault, OutputFault, Memory, FileMissing, ReportFault, TooLarge}
 
@@ -82,7 +84,20 @@ tells_fault fault answer = code_of answer == code_of fault || (is_report_fault a
     is_memory : Status → Bool
     is_memory status = code_of status == 10
 
--- some of one report line was taken, from the front
-pub record TookReportPrefix (before now : Option (List ℕ)) : Type 0 where
+-- some of one report line was taken, from the front: a line that the words can have
+pub record TookReportPrefix (words : List (List ℕ)) (before now : Option (List ℕ)) : Type 0 where
   pub ending : Ending
+  pub can : CanEnd (command_of words) ending
   pub some : TookPrefix before now (report_of ending)
+
+-- some of one report line was taken, from the front: that of the answer, or of a fault of the store or the output
+pub record TookLineOf (answer : Outcome) (before now : Option (List ℕ)) : Type 0 where
+  pub ending : Ending
+  pub is : (ending ≡ answer.ending) ⊎ ((ending ≡ ends.StoreFault) ⊎ (ending ≡ ends.OutputFault))
+  pub some : TookPrefix before now (report_of ending)
+
+-- nothing was printed, and neither the output's count of faults nor the store's moved
+pub record IsIdle (out_before out_now : Option (List ℕ)) (output_before output_now store_before store_now : ℕ) : Type 0 where
+  pub printed : out_now ≡ out_before
+  pub output : output_now ≡ output_before
+  pub store : store_now ≡ store_before

@@ -1,12 +1,12 @@
-ghost use Rattle.std.specs.Prelude.{◌≡◌, ◌≢◌, ◌≤◌, ◌<◌, ◌↔◌, ◌⊎◌, false, length, map, string_bytes, IfOk, IfSome, IsTrue, Some};
+ghost use Rattle.std.specs.Prelude.{◌≡◌, ◌≢◌, ◌≤◌, ◌<◌, ◌↔◌, ◌⊎◌, false, length, map, string_bytes, IfOk, IfSome, IsTrue, Some, None};
 ghost use Rattle.std.specs.FinMap.{get};
 ghost use Rattle.bas_world.specs.Count.{CountMoves, Rose};
 ghost use Rattle.bas_world.specs.Files.{size_of};
 ghost use Rattle.bas_drive.specs.Form.{program_of};
-ghost use Rattle.bas_drive.specs.Answer.{command_of, command_answer, name_of, program_answer, file_answer, answer_of};
+ghost use Rattle.bas_drive.specs.Answer.{command_of, command_answer, name_of, program_answer, file_answer, answer_of, FileEnding, CanEnd};
 ghost use Rattle.bas_drive.specs.Took.{TookAll};
 ghost use Rattle.bas_drive.specs.Report.{report_of};
-ghost use Rattle.bas_drive.specs.Headline.{IsAnswered, AnswersOrGivesUp, can_be, tells_fault, TookReportPrefix};
+ghost use Rattle.bas_drive.specs.Headline.{IsAnswered, AnswersOrGivesUp, can_be, tells_fault, IsTold, IsIdle, TookReportPrefix, TookLineOf};
 ghost use Rattle.bas_drive.specs.Run.{RunOf, is_output_fault, is_store_fault, store_ending};
 
 use crate::ending::Ending;
@@ -38,6 +38,7 @@ fn run_source<O: Sink>(alloc: Global, name: FileName, bytes: &[u8], out: &mut O)
     ensures does { RunOf (program_answer name (program_of bytes.now)) (O.taken out.old) (O.taken out.new) result }
     ensures counted { CountMoves (is_output_fault result) (O.faults out.old) (O.faults out.new) }
     ensures store { is_store_fault result ≡ false }
+    ensures ends { FileEnding name result }
 {
     match reader::program(alloc, bytes) {
         Err(_) => Ending::Memory,
@@ -60,6 +61,7 @@ fn run_sized<S: Store, O: Sink>(
     ensures output { CountMoves (is_output_fault result) (O.faults out.old) (O.faults out.new) }
     ensures store { CountMoves (is_store_fault result) (S.faults store.old) (S.faults store.new) }
     ensures unchanged { S.files store.new ≡ S.files store.old }
+    ensures ends { FileEnding name result }
     ensures longest { S.longest store.new ≡ S.longest store.old }
 {
     if size > SOURCE_BYTES {
@@ -78,6 +80,7 @@ fn go<S: Store, O: Sink>(alloc: Global, name: FileName, store: &mut S, out: &mut
     ensures output { CountMoves (is_output_fault result) (O.faults out.old) (O.faults out.new) }
     ensures store { CountMoves (is_store_fault result) (S.faults store.old) (S.faults store.new) }
     ensures unchanged { S.files store.new ≡ S.files store.old }
+    ensures ends { FileEnding name result }
     ensures longest { S.longest store.new ≡ S.longest store.old }
 {
     match store.size(name) {
@@ -94,6 +97,7 @@ fn obey<S: Store, O: Sink>(alloc: Global, command: Command, store: &mut S, out: 
     ensures output { CountMoves (is_output_fault result) (O.faults out.old) (O.faults out.new) }
     ensures store { CountMoves (is_store_fault result) (S.faults store.old) (S.faults store.new) }
     ensures unchanged { S.files store.new ≡ S.files store.old }
+    ensures ends { CanEnd (Some command) result }
     ensures longest { S.longest store.new ≡ S.longest store.old }
 {
     match command {
@@ -108,6 +112,8 @@ fn perform<S: Store, O: Sink>(alloc: Global, words: &[String], store: &mut S, ou
     ensures output { CountMoves (is_output_fault result) (O.faults out.old) (O.faults out.new) }
     ensures store { CountMoves (is_store_fault result) (S.faults store.old) (S.faults store.new) }
     ensures unchanged { S.files store.new ≡ S.files store.old }
+    ensures ends { CanEnd (command_of (map string_bytes words.now)) result }
+    ensures idle { command_of (map string_bytes words.now) ≡ None → IsIdle (O.taken out.old) (O.taken out.new) (O.faults out.old) (O.faults out.new) (S.faults store.old) (S.faults store.new) }
     ensures longest { S.longest store.new ≡ S.longest store.old }
 {
     match command_of(words) {
@@ -137,6 +143,11 @@ pub fn basic_words<S: Store, I: Source, O: Sink, E: Sink>(
     ensures answered { IfSome (S.files store.old) (λ files. AnswersOrGivesUp (answer_of (map string_bytes words.now) files) (O.taken out.old) (O.taken out.new) (E.taken report.old) (E.taken report.new) result) }
     ensures built { IsTrue (can_be result) }
 
+    // Words that are no command: Usage with its line, and nothing else is done, over any store.
+    ensures usage { result ≡ Status.Usage → command_of (map string_bytes words.now) ≡ None }
+    ensures no_command { command_of (map string_bytes words.now) ≡ None → IsTold Ending.Usage (E.taken report.old) (E.taken report.new) result }
+    ensures idle { command_of (map string_bytes words.now) ≡ None → IsIdle (O.taken out.old) (O.taken out.new) (O.faults out.old) (O.faults out.new) (S.faults store.old) (S.faults store.new) }
+
     // A fault is answered only where that object's count rose in this call.
     ensures store_fault { result ≡ Status.StoreFault → Rose (S.faults store.old) (S.faults store.new) }
     ensures output_fault { result ≡ Status.OutputFault → Rose (O.faults out.old) (O.faults out.new) }
@@ -150,7 +161,8 @@ pub fn basic_words<S: Store, I: Source, O: Sink, E: Sink>(
     // What the report took of a failure.
     ensures store_fault_told { result ≡ Status.StoreFault → TookAll (E.taken report.old) (E.taken report.new) (report_of Ending.StoreFault) }
     ensures output_fault_told { result ≡ Status.OutputFault → TookAll (E.taken report.old) (E.taken report.new) (report_of Ending.OutputFault) }
-    ensures cut_short { TookReportPrefix (E.taken report.old) (E.taken report.new) }
+    ensures cut_short { TookReportPrefix (map string_bytes words.now) (E.taken report.old) (E.taken report.new) }
+    ensures line_of_answer { IfSome (S.files store.old) (λ files. TookLineOf (answer_of (map string_bytes words.now) files) (E.taken report.old) (E.taken report.new)) }
 
     // What no command changes.
     ensures files_stay { S.files store.new ≡ S.files store.old }
