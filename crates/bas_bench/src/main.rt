@@ -2,7 +2,7 @@
 // multiplied and divided, and each sum printed. It writes one checksum of all results, and promises
 // nothing but to end: what the operations give is promised by `bas_dec`.
 // The operands are made by the generator s := s * 6364136223846793005 + 1442695040888963407 mod 2^64.
-// Time it after `rt ci bas_bench` by `time crates/bas_bench/out/bas_bench`.
+// Time it by `time out/bas_bench` behind `rt run`.
 #![tactic(auto)]
 
 use bas_dec::{Dec, DecFault};
@@ -32,21 +32,31 @@ fn mixed(checksum: u64, word: u64) -> u64 {
     checksum.rotate_left(7).wrapping_mul(31).wrapping_add(word)
 }
 
+/// The checksum with one more number.
+fn with_number(checksum: u64, number: Dec) -> u64 {
+    let (coefficient, scale) = number.parts();
+    let size = coefficient.unsigned_abs();
+    let low = (size % 18_446_744_073_709_551_616) as u64;
+    let high = (size / 18_446_744_073_709_551_616) as u64;
+    let sign = u64::from(coefficient < 0);
+    let head = mixed(mixed(checksum, low), high);
+    mixed(head, u64::from(scale) * 2 + sign)
+}
+
+/// The checksum with one more fault.
+fn with_fault(checksum: u64, fault: DecFault) -> u64 {
+    match fault {
+        DecFault::Overflow => mixed(checksum, 1_002),
+        DecFault::ZeroDivide => mixed(checksum, 3_001),
+        DecFault::NotWhole | DecFault::BadRoot => mixed(checksum, 9_999),
+    }
+}
+
 /// The checksum with one more result.
 fn with_result(checksum: u64, outcome: Result<Dec, DecFault>) -> u64 {
     match outcome {
-        Ok(number) => {
-            let (coefficient, scale) = number.parts();
-            let size = coefficient.unsigned_abs();
-            let low = (size % 18_446_744_073_709_551_616) as u64;
-            let high = (size / 18_446_744_073_709_551_616) as u64;
-            let sign = u64::from(coefficient < 0);
-            let head = mixed(mixed(checksum, low), high);
-            mixed(head, u64::from(scale) * 2 + sign)
-        }
-        Err(DecFault::Overflow) => mixed(checksum, 1_002),
-        Err(DecFault::ZeroDivide) => mixed(checksum, 3_001),
-        Err(_) => mixed(checksum, 9_999),
+        Ok(number) => with_number(checksum, number),
+        Err(fault) => with_fault(checksum, fault),
     }
 }
 
@@ -62,16 +72,14 @@ fn with_text(mut checksum: u64, number: Dec) -> u64 {
     checksum
 }
 
-/// The checksum with all results of one pair.
+/// The checksum with the results of one pair: the sum and its text, the product and the quotient.
 fn with_pair(checksum: u64, x: Dec, y: Dec) -> u64 {
-    let sum = x.add(y);
-    let added = with_result(checksum, sum);
+    let added = match x.add(y) {
+        Ok(sum) => with_text(with_number(checksum, sum), sum),
+        Err(fault) => with_fault(checksum, fault),
+    };
     let multiplied = with_result(added, x.mul(y));
-    let divided = with_result(multiplied, x.div(y));
-    match sum {
-        Ok(number) => with_text(divided, number),
-        Err(_) => divided,
-    }
+    with_result(multiplied, x.div(y))
 }
 
 /// The checksum of all results.
