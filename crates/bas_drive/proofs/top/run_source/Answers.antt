@@ -1,4 +1,3 @@
-
 use Rattle.bas_drive.proofs.AnswerLaws.{run_can_end_in}
 use Rattle.bas_drive.proofs.top.run_source.Goals as goal
 
