@@ -1,4 +1,5 @@
 pub mod Integers
+pub mod Tens
 pub mod Powers
 pub mod Bounds
 pub mod DigitLemmas
@@ -17,3 +18,5 @@ pub mod Rounding
 pub mod Order
 pub mod Products
 pub mod Root
+pub mod CommonLaws
+pub mod ExactSums

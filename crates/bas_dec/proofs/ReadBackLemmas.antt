@@ -125,6 +125,7 @@ digits_few size zero h small = omega (arith, text_room size 0 h small, length-la
 digits_few size (suc count) h small = omega (arith, text_room size (suc count) h small, length-fraction_text size (suc count) (omega arith), length-last_digits size (suc count))
 
 low_itself : (n s : ℕ) → n < 10 ^ 38 → s ≤ PLACES → (0 < s → 0 < n % 10) → low (pos n) s ≡ Some (record { coefficient = pos n; scale = s })
+unfolding low
 low_itself n s small few lowest = ap (λ (p : ℕ × ℕ). number_of (pos p.0) p.1) (stripped_nonzero n s lowest) ∙ inside n s small few
   where
     inside : (n s : ℕ) → n < 10 ^ 38 → s ≤ PLACES → number_of (pos n) s ≡ Some (record { coefficient = pos n; scale = s })

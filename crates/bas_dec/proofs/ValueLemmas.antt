@@ -13,12 +13,14 @@ use Rattle.bas_dec.proofs.Lowest.{stripped_zero, stripped_nonzero}
 use Rattle.bas_dec.proofs.Powers.{ten_to_positive}
 
 pub low_pop : (n s : ℕ) → 0 < s → n % 10 ≡ 0 → low (pos n) s ≡ low (pos (n / 10)) (s - 1)
+unfolding low
 low_pop n s h e = ap (λ (p : ℕ × ℕ). number_of (pos p.0) p.1) (stripped_zero n s h e)
 
 number_beyond : (n s : ℕ) → 10 ^ 38 ≤ n → number_of (pos n) s ≡ None
 number_beyond n s h = grind (arith, nat_tests)
 
 pub low_beyond : (n s : ℕ) → 10 ^ 38 ≤ n → (0 < s → 0 < n % 10) → low (pos n) s ≡ None
+unfolding low
 low_beyond n s h left = ap (λ (p : ℕ × ℕ). number_of (pos p.0) p.1) (stripped_nonzero n s left) ∙ number_beyond n s h
 
 -- zeros behind the digits of a fraction change no value

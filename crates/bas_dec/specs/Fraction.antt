@@ -24,9 +24,11 @@ ratio p q = record { numerator = p; denominator = q }
 abbrev pub value_of : Number → Fraction
 value_of x = ratio x.coefficient (10 ^ x.scale)
 
+-- n / 1
 abbrev pub whole : ℤ → Fraction
 whole n = ratio n 1
 
+-- .5
 abbrev pub half : Fraction
 half = ratio (pos 1) 2
 
@@ -110,6 +112,7 @@ whole_word x = saturate_signed w64 (whole_of x)
 abbrev pub rest_by : (Fraction → ℤ) → Number → Number → Result Number DecFault
 rest_by f x y = at_larger_scale (λ a b. Ok (a -ℤ b *ℤ f (over (whole a) (whole b)))) x y
 
+-- the same, or ZeroDivide where y is zero
 abbrev pub rest_of : (Fraction → ℤ) → Number → Number → Result Number DecFault
 rest_of f x y = if unsigned_abs y.coefficient == 0 then Err ZeroDivide else rest_by f x y
 

@@ -6,6 +6,7 @@ use Rattle.bas_dec.specs.declared.TheConstants.{SHORT, LARGEST_EXPONENT}
 use Rattle.bas_dec.specs.declared.fault.DecFault.{DecFault}
 use Rattle.bas_dec.specs.declared.fault.DecFault.TheVariants.{Overflow, NotWhole, BadRoot}
 
+-- 1
 abbrev pub one : Number
 one = record { coefficient = pos 1; scale = 0 }
 

@@ -9,8 +9,8 @@ mod fault;
 pub mod laws;
 mod number;
 mod numeral;
-mod text;
 mod strip;
+mod text;
 mod types;
 mod wide;
 mod words;
@@ -19,8 +19,9 @@ pub use fault::DecFault;
 pub use number::Dec;
 pub use numeral::{
     Numeral, form_gives_answer, form_has_one_reading, not_numeral_without_form, read_numeral,
+    worked_numerals,
 };
-pub use text::printed_number_reads_back;
+pub use text::{printed_number_reads_back, worked_texts};
 pub use types::{FixType, NumType};
 
 /// The most places that a number has behind its point.

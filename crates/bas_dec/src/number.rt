@@ -101,3 +101,6 @@ impl Dec {
         raised(self.coefficient, scale - self.scale)
     }
 }
+
+#[cfg(test)]
+mod tests;

@@ -11,7 +11,9 @@ ghost use Rattle.bas_dec.specs.Numeral.{number_written, nearest_number, answer_o
 use crate::PLACES;
 use crate::number::Dec;
 use crate::wide::Wide;
-pub use laws::{form_gives_answer, form_has_one_reading, not_numeral_without_form};
+pub use laws::{
+    form_gives_answer, form_has_one_reading, not_numeral_without_form, worked_numerals,
+};
 
 /// The most digits that the mantissa of a numeral has, zeros at its front too.
 pub const MANTISSA_DIGITS: usize = 60;
@@ -222,3 +224,6 @@ fn number(mut size: Wide, mut scale: u8) -> Option<Dec>
         scale -= 1;
     }
 }
+
+#[cfg(test)]
+mod tests;

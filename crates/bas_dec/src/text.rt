@@ -6,7 +6,7 @@ ghost use Rattle.std.specs.Fmt.{decimal};
 ghost use Rattle.bas_dec.specs.Text.{last_digits, whole_text, fraction_text, size_text, sign_byte};
 
 use crate::number::Dec;
-pub use laws::printed_number_reads_back;
+pub use laws::{printed_number_reads_back, worked_texts};
 use std::marker::Model;
 
 /// How many bytes a text may have.
@@ -148,3 +148,6 @@ impl Dec {
         text.copy_to(out)
     }
 }
+
+#[cfg(test)]
+mod tests;

@@ -1,5 +1,5 @@
 -- What has been read of a file.
-use Rattle.std.proofs.Common.{◌≡◌, ℕ, ◌+◌, ◌-◌, ◌≤◌, List, ◌++◌, Option, Some, None, IfSome, length, take, drop, min, refl, sym, ap, ◌∙◌, subst, arith}
+use Rattle.std.proofs.Common.{◌≡◌, ℕ, ◌+◌, ◌≤◌, List, ◌++◌, Option, Some, None, IfSome, length, take, drop, sym, ap, ◌∙◌, subst, arith}
 use Rattle.std.proofs.Math.Seq.{take-add, take-append-add}
 use Rattle.std.proofs.lemmas.List.{take-append-le, length-take-le, length-append, length-drop, take_at}
 use borrow.Rule.Slice.PartMut.{put_mid, post_of}
@@ -26,11 +26,11 @@ more_bytes :
 more_bytes bytes filled count k buffer part old within fits so_far is_count is_part =
     let few : count ≤ length (drop filled bytes) = subst (λ n. count ≤ n) (sym (length-drop filled bytes)) (omega (arith, is_count)) in
     front filled count (take filled buffer) (part ++ post_of filled k buffer) (length-take-le filled buffer within)
-      ∙ (ap (λ r. take filled buffer ++ r) (take-append-le count part (post_of filled k buffer) fits)
-      ∙ (ap (λ r. take filled buffer ++ take count r) is_part
-      ∙ (ap (λ r. take filled buffer ++ r) (take_at (take count (drop filled bytes)) (drop count old) count (length-take-le count (drop filled bytes) few))
-      ∙ (ap (λ r. r ++ take count (drop filled bytes)) so_far
-      ∙ sym (take-add filled count bytes)))))
+    ∙ (ap (λ r. take filled buffer ++ r) (take-append-le count part (post_of filled k buffer) fits)
+    ∙ (ap (λ r. take filled buffer ++ take count r) is_part
+    ∙ (ap (λ r. take filled buffer ++ r) (take_at (take count (drop filled bytes)) (drop count old) count (length-take-le count (drop filled bytes) few))
+    ∙ (ap (λ r. r ++ take count (drop filled bytes)) so_far
+    ∙ sym (take-add filled count bytes)))))
 
 -- the buffer after one more read
 pub HasRead-more :
@@ -38,10 +38,10 @@ pub HasRead-more :
     HasRead files name filled buffer → count ≤ length part → ReadsPart files name filled count old part →
     HasRead files name (filled + count) (put_mid filled k buffer part)
 HasRead-more files name filled count k buffer part old so_far fits reads = record {
-    within = subst (λ n. filled + count ≤ n) (sym (length-append (take filled buffer) (part ++ post_of filled k buffer)))
+  within = subst (λ n. filled + count ≤ n) (sym (length-append (take filled buffer) (part ++ post_of filled k buffer)))
       (omega (arith, fits, length-take-le filled buffer so_far.within, length-append part (post_of filled k buffer)));
-    bytes = told files so_far.bytes reads
-  }
+  bytes = told files so_far.bytes reads;
+}
   where
     told : (files : Option Files) → IfSome files (λ all. take filled buffer ≡ take filled (bytes_at all name)) → ReadsPart files name filled count old part → IfSome files (λ all. take (filled + count) (put_mid filled k buffer part) ≡ take (filled + count) (bytes_at all name))
     told None so_far_bytes reads = tt

@@ -30,10 +30,10 @@ pub Sending-more :
     (before middle now : Option (List ℕ)) (text left : List ℕ) (count : ℕ) →
     Sending before middle text left → TookAll middle now (take count left) → Sending before now text (drop count left)
 Sending-more before middle now text left count so_far more = record {
-    sent = so_far.sent ++ take count left;
-    whole = append_assoc so_far.sent (take count left) (drop count left) ∙ (ap (λ r. so_far.sent ++ r) (take-append-drop count left) ∙ so_far.whole);
-    took = TookAll-then before middle now so_far.sent (take count left) so_far.took more
-  }
+  sent = so_far.sent ++ take count left;
+  whole = append_assoc so_far.sent (take count left) (drop count left) ∙ (ap (λ r. so_far.sent ++ r) (take-append-drop count left) ∙ so_far.whole);
+  took = TookAll-then before middle now so_far.sent (take count left) so_far.took more;
+}
 
 -- the same, with what is left as a slice's range from count on
 pub Sending-range :
@@ -49,22 +49,30 @@ Sending-none before text = record { sent = []; whole = refl; took = TookAll-none
 -- a text of which some was taken is the front of a longer one
 pub TookPrefix-front : (before now : Option (List ℕ)) (text more : List ℕ) → TookPrefix before now text → TookPrefix before now (text ++ more)
 TookPrefix-front before now text more some = record {
-    part = some.part;
-    rest = some.rest ++ more;
-    whole = sym (append_assoc some.part some.rest more) ∙ ap (λ t. t ++ more) some.whole;
-    took = some.took
-  }
+  part = some.part;
+  rest = some.rest ++ more;
+  whole = sym (append_assoc some.part some.rest more) ∙ ap (λ t. t ++ more) some.whole;
+  took = some.took;
+}
 
 -- first all of one text, and then some of another
 pub TookPrefix-then :
     (before middle now : Option (List ℕ)) (first second : List ℕ) → TookAll before middle first → TookPrefix middle now second → TookPrefix before now (first ++ second)
 TookPrefix-then before middle now first second all some = record {
-    part = first ++ some.part;
-    rest = some.rest;
-    whole = append_assoc first some.part some.rest ∙ ap (λ t. first ++ t) some.whole;
-    took = TookAll-then before middle now first some.part all some.took
-  }
+  part = first ++ some.part;
+  rest = some.rest;
+  whole = append_assoc first some.part some.rest ∙ ap (λ t. first ++ t) some.whole;
+  took = TookAll-then before middle now first some.part all some.took;
+}
 
 -- the front of a buffer that begins with a text
 pub text_at : (count : ℕ) (text buffer rest : List ℕ) → count ≡ length text → buffer ≡ text ++ rest → take count buffer ≡ text
 text_at count text buffer rest is_count is_buffer = ap (λ b. take count b) is_buffer ∙ take_at text rest count (sym is_count)
+
+-- nothing was taken of any text
+pub TookPrefix-none : (before : Option (List ℕ)) (text : List ℕ) → TookPrefix before before text
+TookPrefix-none before text = record { part = []; rest = text; whole = refl; took = TookAll-none before }
+
+-- all of a text is some of it
+pub TookPrefix-all : (before now : Option (List ℕ)) (text : List ℕ) → TookAll before now text → TookPrefix before now text
+TookPrefix-all before now text took = record { part = text; rest = []; whole = append-nil text; took = took }

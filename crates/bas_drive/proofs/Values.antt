@@ -1,5 +1,5 @@
 -- The value of a sum, term by term.
-use Rattle.std.proofs.Common.{◌≡◌, ℕ, ◌+◌, ◌<◌, ◌≤◌, List, [], ◌∷◌, length, drop, get_or, suc, Result, Ok, Err, Some, Option, if◌then◌else◌, refl, sym, ap, ◌∙◌, pos, add-one}
+use Rattle.std.proofs.Common.{◌≡◌, ℕ, ◌+◌, ◌<◌, ◌≤◌, List, [], ◌∷◌, length, drop, get_or, suc, Result, Ok, Err, Some, if◌then◌else◌, refl, sym, ap, ◌∙◌, pos, add-one}
 use Rattle.std.proofs.Math.Seq.{drop-cons}
 use Rattle.std.proofs.lemmas.List.{drop_all}
 use Rattle.bas_dec.specs.Number.{Number, low, stripped}
@@ -10,7 +10,7 @@ use Rattle.bas_drive.specs.declared.program.Term.{Term}
 
 -- 0 is a number
 pub low_zero : low (pos 0) 0 ≡ Some unset
-unfolding stripped
+unfolding low stripped
 low_zero = refl
 
 -- x with the term behind it
@@ -33,7 +33,7 @@ pub value_after-drop :
     value_after variables x (drop i terms) ≡ and_then (with_term variables x term) (λ z. value_after variables z (drop (suc i) terms))
 value_after-drop variables x terms i term lt is_term =
     ap (λ ts. value_after variables x ts) (drop-cons terms i term lt)
-      ∙ (ap (λ t. value_after variables x (t ∷ drop (suc i) terms)) (sym is_term) ∙ value_after-term variables x term (drop (suc i) terms))
+    ∙ (ap (λ t. value_after variables x (t ∷ drop (suc i) terms)) (sym is_term) ∙ value_after-term variables x term (drop (suc i) terms))
 
 -- a term's value is the operand's, and the two are joined to r
 with_term-is :
@@ -48,8 +48,8 @@ pub value_after-next :
     value_after variables x (drop i terms) ≡ value_after variables z (drop (i + 1) terms)
 value_after-next variables x terms i term y z lt is_term is_y joined =
     value_after-drop variables x terms i term lt is_term
-      ∙ (ap (λ r. and_then r (λ v. value_after variables v (drop (suc i) terms))) (with_term-is variables x term y (Ok z) is_y joined)
-      ∙ ap (λ k. value_after variables z (drop k terms)) (sym (add-one i)))
+    ∙ (ap (λ r. and_then r (λ v. value_after variables v (drop (suc i) terms))) (with_term-is variables x term y (Ok z) is_y joined)
+    ∙ ap (λ k. value_after variables z (drop k terms)) (sym (add-one i)))
 
 -- the term at an index gives a fault, and that is the value
 pub value_after-fault :

@@ -1,5 +1,5 @@
 -- What the words ask for, and the answer to that where nothing outside fails.
-use Rattle.std.specs.Prelude.{ℕ, ◌&&◌, nat_le, nat_eq, if◌then◌else◌, List, [], ◌∷◌, length, codes, Option, Some, None, Bool}
+use Rattle.std.specs.Prelude.{◌≡◌, ℕ, ◌&&◌, nat_le, nat_eq, if◌then◌else◌, List, [], ◌∷◌, length, codes, Option, Some, None, Bool}
 use Rattle.std.specs.List.{ends_with}
 use Rattle.std.specs.FinMap.{get}
 use Rattle.bas_base.specs.Names.{is_file_name}
@@ -11,7 +11,7 @@ use Rattle.bas_drive.specs.declared.program.NumItem.{NumItem}
 use Rattle.bas_drive.specs.declared.words.Command.{Command}
 use Rattle.bas_drive.specs.declared.words.Command.TheVariants.{Go}
 use Rattle.bas_drive.specs.declared.ending.Ending.{Ending}
-use Rattle.bas_drive.specs.declared.ending.Ending.TheVariants.{Usage, Missing, Refused}
+use Rattle.bas_drive.specs.declared.ending.Ending.TheVariants.{Ended, Stopped, Usage, Missing, Refused, StoreFault, OutputFault, Memory}
 
 -- the name of a source file: a file name of at most 64 bytes that ends in `.bas`
 abbrev pub is_source_name : List ℕ → Bool
@@ -21,6 +21,10 @@ is_source_name name = is_file_name name && (nat_le (length name) 64 && ends_with
 abbrev pub command_of : List (List ℕ) → Option Command
 command_of (verb ∷ name ∷ []) = if same_text verb (codes "go") && is_source_name name then Some (Go name) else None
 command_of _ = None
+
+-- the file that a command names
+abbrev pub name_of : Command → List ℕ
+name_of (Go name) = name
 
 -- the answer to `go` for a file that is a program or is none
 abbrev pub program_answer : List ℕ → Option (List NumItem) → Outcome
@@ -40,3 +44,19 @@ command_answer (Some (Go name)) files = file_answer name (get files name)
 -- the answer to the words: what is printed, and how the command ends
 abbrev pub answer_of : List (List ℕ) → Files → Outcome
 answer_of words files = command_answer (command_of words) files
+
+-- an ending that `go` can have for a file, whatever the store holds
+abbrev pub FileEnding : List ℕ → Ending → Type 0
+FileEnding name Ended = Unit {0}
+FileEnding name (Stopped at) = (at.ex ≡ 1002) × (at.unit ≡ codes "MAIN")
+FileEnding name Usage = ⊥
+FileEnding name (Missing other) = other ≡ name
+FileEnding name (Refused other) = other ≡ name
+FileEnding name StoreFault = Unit {0}
+FileEnding name OutputFault = Unit {0}
+FileEnding name Memory = Unit {0}
+
+-- an ending that the words can have: Usage where they are no command, and else one of their file
+abbrev pub CanEnd : Option Command → Ending → Type 0
+CanEnd None ending = ending ≡ Usage
+CanEnd (Some (Go name)) ending = FileEnding name ending

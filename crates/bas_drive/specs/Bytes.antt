@@ -1,5 +1,6 @@
 -- Words on texts as lists of bytes.
-use Rattle.std.specs.Prelude.{ℕ, ◌+◌, ◌-◌, ◌*◌, ◌==◌, ◌&&◌, nat_eq, Bool, true, false, if◌then◌else◌, List, [], ◌∷◌}
+use Rattle.std.specs.Prelude.{ℕ, ◌+◌, ◌-◌, ◌*◌, ◌==◌, ◌||◌, nat_eq, Bool, true, false, if◌then◌else◌, List, [], ◌∷◌, length, take, drop, fold}
+use Rattle.std.specs.List.{prefix_len, suffix_len, onto_first}
 use Rattle.std.specs.Cmp.Lexicographic.{pointwise}
 
 -- a list without items
@@ -11,36 +12,41 @@ is_empty (x ∷ xs) = false
 abbrev pub same_text : List ℕ → List ℕ → Bool
 same_text a b = pointwise nat_eq a b
 
+-- LF, which ends a line
+abbrev pub is_line_end : ℕ → Bool
+is_line_end c = c == 10
+
+abbrev pub is_space : ℕ → Bool
+is_space c = c == 32
+
+-- a plus or a minus
+abbrev pub is_sign : ℕ → Bool
+is_sign c = c == 43 || c == 45
+
+abbrev pub is_equals : ℕ → Bool
+is_equals c = c == 61
+
 -- the text without the spaces at its front
-unfoldable pub without_leading : List ℕ → List ℕ
-without_leading [] = []
-without_leading (c ∷ cs) = if c == 32 then without_leading cs else c ∷ cs
+abbrev pub without_leading : List ℕ → List ℕ
+without_leading text = drop (prefix_len is_space text) text
 
 -- the text without the spaces at its end
-unfoldable pub without_trailing : List ℕ → List ℕ
-without_trailing [] = []
-without_trailing (c ∷ cs) =
-    let rest = without_trailing cs in
-    if c == 32 && is_empty rest then [] else c ∷ rest
+abbrev pub without_trailing : List ℕ → List ℕ
+without_trailing text = take (length text - suffix_len is_space text) text
 
 -- the text without the spaces at both ends
 abbrev pub trimmed : List ℕ → List ℕ
-trimmed text = without_leading (without_trailing text)
+trimmed text = without_trailing (without_leading text)
+
+-- nothing but spaces
+abbrev pub is_blank : List ℕ → Bool
+is_blank text = is_empty (trimmed text)
 
 -- the lines of a file: each ends with LF, which the last may lack
 unfoldable pub lines_of : List ℕ → List (List ℕ)
 lines_of [] = []
-lines_of (c ∷ cs) = if c == 10 then [] ∷ lines_of cs else in_first c (lines_of cs)
-  where
-    in_first : ℕ → List (List ℕ) → List (List ℕ)
-    in_first c [] = (c ∷ []) ∷ []
-    in_first c (line ∷ lines) = (c ∷ line) ∷ lines
-
--- the whole number that decimal digits spell, behind a number that was spelled before
-unfoldable pub spelled_after : ℕ → List ℕ → ℕ
-spelled_after n [] = n
-spelled_after n (c ∷ cs) = spelled_after (10 * n + (c - 48)) cs
+lines_of (c ∷ cs) = if is_line_end c then [] ∷ lines_of cs else onto_first c (lines_of cs)
 
 -- the whole number that decimal digits spell
 abbrev pub spelled : List ℕ → ℕ
-spelled digits = spelled_after 0 digits
+spelled digits = fold (λ n digit. 10 * n + (digit - 48)) 0 digits

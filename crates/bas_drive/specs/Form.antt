@@ -1,15 +1,15 @@
 -- Which files are programs of the form that is built, and which program each of them is.
-use Rattle.std.specs.Prelude.{ℕ, ◌==◌, ◌&&◌, ◌||◌, not, nat_le, nat_lt, Bool, true, false, if◌then◌else◌, List, [], ◌∷◌, length, take, drop, slice_index, codes, Option, Some, None}
-use Rattle.std.specs.List.{list_all, list_any, prefix_len, before_first, after_first}
+use Rattle.std.specs.Prelude.{ℕ, ◌==◌, ◌&&◌, ◌||◌, not, nat_eq, nat_le, nat_lt, Bool, true, false, if◌then◌else◌, List, [], ◌∷◌, length, take, drop, slice_index, codes, Option, Some, None}
+use Rattle.std.specs.List.{list_all, list_any, prefix_len, before_first, after_first, ends_with}
 use Rattle.std.specs.Option.{option_map, option_and_then}
 use Rattle.std.specs.Char.{is_ascii_digit}
 use Rattle.std.specs.Str.{str_to_ascii_uppercase}
-use Rattle.bas_base.specs.Names.{is_word, is_word_byte}
+use Rattle.bas_base.specs.Names.{is_name, is_word_byte}
 use Rattle.bas_dec.specs.Number.{Number}
 use Rattle.bas_dec.specs.Numeral.{numeral_of}
 use Rattle.bas_dec.specs.declared.numeral.Numeral.{Numeral}
 use Rattle.bas_dec.specs.declared.numeral.Numeral.TheVariants.{Value, TooLarge, NotNumeral}
-use Rattle.bas_drive.specs.Bytes.{is_empty, same_text, trimmed, lines_of, spelled}
+use Rattle.bas_drive.specs.Bytes.{is_empty, is_blank, same_text, is_space, is_sign, is_equals, is_line_end, trimmed, lines_of, spelled}
 use Rattle.bas_drive.specs.declared.program.Operand.{Operand}
 use Rattle.bas_drive.specs.declared.program.Operand.TheVariants.{Variable, Constant}
 use Rattle.bas_drive.specs.declared.program.Term.{Term}
@@ -30,20 +30,28 @@ reserved_words =
     codes "MAX" ∷ codes "MIN" ∷ codes "MAXNUM" ∷ codes "RND" ∷ codes "EXTYPE" ∷ codes "EXLINE" ∷
     codes "LBOUND" ∷ codes "UBOUND" ∷ codes "LEN" ∷ codes "ORD" ∷ codes "POS" ∷ codes "VAL" ∷ []
 
--- a variable's name: a word of at most 31 bytes that is not reserved, in capitals
+-- the name of a string variable: it ends with a `$`
+abbrev pub is_string_name : List ℕ → Bool
+is_string_name text = ends_with nat_eq text (36 ∷ [])
+
+-- a word without regard to case: it is a reserved one
+abbrev pub is_reserved : List ℕ → Bool
+is_reserved text = list_any (same_text (str_to_ascii_uppercase text)) reserved_words
+
+-- a variable: a name without `$` that is not reserved, in capitals
 abbrev pub variable_of : List ℕ → Option (List ℕ)
 variable_of text =
-    let name = str_to_ascii_uppercase text in
-    if (nat_le (length text) 31 && is_word text) && not (list_any (same_text name) reserved_words) then Some name else None
+    if is_name text && not (is_string_name text || is_reserved text) then Some (str_to_ascii_uppercase text) else None
+
+-- the number that an answer has, if it has one
+abbrev pub number_in : Numeral → Option Number
+number_in (Value x) = Some x
+number_in TooLarge = None
+number_in NotNumeral = None
 
 -- a constant: 1 to 60 digits of a value that a number can have
 abbrev pub constant_of : List ℕ → Option Number
-constant_of text = if list_all is_ascii_digit text then value_of (numeral_of text) else None
-  where
-    value_of : Numeral → Option Number
-    value_of (Value x) = Some x
-    value_of TooLarge = None
-    value_of NotNumeral = None
+constant_of text = if list_all is_ascii_digit text then number_in (numeral_of text) else None
 
 -- an operand: a constant or a variable, with spaces around it
 abbrev pub operand_of : List ℕ → Option Operand
@@ -60,13 +68,13 @@ unfoldable pub cut : List ℕ → List ℕ × List Piece
 cut [] = ([], [])
 cut (c ∷ cs) =
     let behind = cut cs in
-    if c == 43 || c == 45 then ([], (c == 45, behind.0) ∷ behind.1) else (c ∷ behind.0, behind.1)
+    if is_sign c then ([], (c == 45, behind.0) ∷ behind.1) else (c ∷ behind.0, behind.1)
 
 -- the pieces of a sum; a sign in front of them all belongs to the first
 abbrev pub pieces_of : List ℕ → List Piece
 pieces_of text =
     let parts = cut text in
-    if is_empty (trimmed parts.0) && not (is_empty parts.1) then parts.1 else (false, parts.0) ∷ parts.1
+    if is_blank parts.0 && not (is_empty parts.1) then parts.1 else (false, parts.0) ∷ parts.1
 
 -- each piece as a term, if each has an operand
 unfoldable pub terms_of : List Piece → Option (List Term)
@@ -81,10 +89,13 @@ sum_of text = terms_of (pieces_of text)
 -- `name = sum`
 abbrev pub assignment_of : List ℕ → Option Item
 assignment_of text =
-    let is_equals : ℕ → Bool = λ c. c == 61 in
     if list_any is_equals text
     then both Let (variable_of (trimmed (before_first is_equals text))) (sum_of (after_first is_equals text))
     else None
+
+-- what PRINT prints: a sum
+abbrev pub print_of : List ℕ → Option Item
+print_of text = option_map Print (sum_of text)
 
 -- an item by its first word: LET, PRINT or END
 abbrev pub item_of : List ℕ → Option Item
@@ -93,19 +104,26 @@ item_of text =
     let word = str_to_ascii_uppercase (take count text) in
     let rest = drop count text in
     if same_text word (codes "LET") then assignment_of rest
-    else if same_text word (codes "PRINT") then option_map Print (sum_of rest)
+    else if same_text word (codes "PRINT") then print_of rest
     else if same_text word (codes "END") && is_empty rest then Some End
     else None
 
--- a line: 1 to 8 digits of a value from 1 to 99999, one or more spaces, and an item; spaces may end it
+-- a line number: 1 to 8 digits of a value from 1 to 99999
+abbrev pub line_number_of : List ℕ → Option ℕ
+line_number_of digits =
+    let number = spelled digits in
+    if nat_le (length digits) 8 && (nat_le 1 number && nat_le number 99999) then Some number else None
+
+-- an item with the number of its line
+abbrev pub numbered : ℕ → Item → NumItem
+numbered number item = record { line = number; item = item }
+
+-- a line: a line number, one or more spaces, and an item; spaces may end it
 abbrev pub line_of : List ℕ → Option NumItem
 line_of text =
     let count = prefix_len is_ascii_digit text in
-    let number = spelled (take count text) in
     let rest = drop count text in
-    if (nat_le count 8 && (nat_le 1 number && nat_le number 99999)) && slice_index rest 0 == 32
-    then option_map (λ item. record { line = number; item = item }) (item_of (trimmed rest))
-    else None
+    if is_space (slice_index rest 0) then both numbered (line_number_of (take count text)) (item_of (trimmed rest)) else None
 
 -- each text as a line, if each is one
 unfoldable pub all_lines : List (List ℕ) → Option (List NumItem)
@@ -126,7 +144,7 @@ is_program_after number (line ∷ lines) =
 
 -- a byte that may stand in a file: LF, or 32 to 126 other than `!`
 abbrev pub is_source_byte : ℕ → Bool
-is_source_byte c = c == 10 || ((nat_le 32 c && nat_le c 126) && not (c == 33))
+is_source_byte c = is_line_end c || ((nat_le 32 c && nat_le c 126) && not (c == 33))
 
 -- a program: its lines, with numbers that rise strictly and END at their end alone
 abbrev pub checked : List NumItem → Option (List NumItem)

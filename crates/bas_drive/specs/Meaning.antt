@@ -28,7 +28,7 @@ all_zero name = unset
 
 -- the variables with another value for one of them
 abbrev pub with_value : Variables → List ℕ → Number → Variables
-with_value variables name x = λ other. if same_text other name then x else variables other
+with_value variables name x = λ other. if same_text name other then x else variables other
 
 abbrev pub operand_value : Variables → Operand → Number
 operand_value variables (Variable name) = variables name

@@ -1,4 +1,4 @@
-ghost use Rattle.std.specs.Prelude.{◌≡◌, codes, if◌then◌else◌, MatchResult, OnOk, OnErr, Ok, Err};
+ghost use Rattle.std.specs.Prelude.{◌≡◌, false, codes, if◌then◌else◌, MatchResult, OnOk, OnErr, Ok, Err};
 ghost use Rattle.std.specs.Ordering.{nat_cmp};
 ghost use Rattle.std.specs.Cmp.Lexicographic.{slice_cmp};
 ghost use Rattle.bas_dec.specs.Arithmetic.{sum_of, difference_of};
@@ -6,10 +6,10 @@ ghost use Rattle.bas_world.specs.Count.{CountMoves};
 ghost use Rattle.bas_world.specs.Faults.{sink_failed};
 ghost use Rattle.bas_drive.specs.Took.{TookAll, TookPrefix};
 ghost use Rattle.bas_drive.specs.Meaning.{unset, operand_value, value_of, value_after, print_line, overflow_at, with_value};
-ghost use Rattle.bas_drive.specs.Run.{values_in};
+ghost use Rattle.bas_drive.specs.Run.{values_in, IsAssigned, StepOf, is_output_fault, is_store_fault, step_is};
 
 use crate::ending::Ending;
-use crate::program::{Operand, Term};
+use crate::program::{Item, NumItem, Operand, Term};
 use crate::write::write_all;
 use bas_base::{Ex, ExAt, Line, Name};
 use bas_dec::{Dec, DecFault};
@@ -93,4 +93,37 @@ fn print<O: Sink>(out: &mut O, x: Dec) -> Result<(), SinkFail>
     let count = x.print_into(&mut text);
     write_all(out, &text[..count])?;
     write_all(out, b"\n")
+}
+
+// Sets a variable, and goes on.
+fn assign(values: &mut BTreeMap<Name, Dec>, name: Name, x: Dec) -> Step
+    ensures { IsAssigned result (values_in values.old) (values_in values.new) name x }
+{
+    match values.insert(name, x) {
+        Ok(_) => Step::Next,
+        Err(_) => Step::Ends(Ending::Memory),
+    }
+}
+
+/// Runs one line.
+pub fn run_line<O: Sink>(line: &NumItem, values: &mut BTreeMap<Name, Dec>, out: &mut O) -> Step
+    ensures does { StepOf line.now (values_in values.old) (values_in values.new) (O.taken out.old) (O.taken out.new) result }
+    ensures counted { CountMoves (step_is is_output_fault result) (O.faults out.old) (O.faults out.new) }
+    ensures store { step_is is_store_fault result ≡ false }
+{
+    match &line.item {
+        Item::Let(name, terms) => match value_of(values, terms.items()) {
+            Ok(x) => assign(values, *name, x),
+            Err(_) => Step::Ends(overflow_at(line.line)),
+        },
+        Item::Print(terms) => match value_of(values, terms.items()) {
+            Ok(x) => match print(out, x) {
+                Ok(()) => Step::Next,
+                Err(SinkFail::Failed) => Step::Ends(Ending::OutputFault),
+                Err(SinkFail::Memory) => Step::Ends(Ending::Memory),
+            },
+            Err(_) => Step::Ends(overflow_at(line.line)),
+        },
+        Item::End => Step::Ends(Ending::Ended),
+    }
 }

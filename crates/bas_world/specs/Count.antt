@@ -5,9 +5,13 @@ use Rattle.std.specs.Prelude.{◌≡◌, ℕ, ◌+◌, ◌-◌, ◌^◌, ◌≤�
 abbrev pub last_count : ℕ
 last_count = 2 ^ 64 - 1
 
+-- the count after one more: it stands still at its last value
+abbrev pub next_count : ℕ → ℕ
+next_count count = min (count + 1) last_count
+
 -- the count rose between the two moments; one that stands at its last value counts as risen
 abbrev pub Rose : ℕ → ℕ → Type 0
-Rose before now = min (before + 1) last_count ≤ now
+Rose before now = next_count before ≤ now
 
 -- what one call does to a count: it never falls, it rises where the call failed, and it stands still otherwise
 pub record CountMoves (failed : Bool) (before now : ℕ) : Type 0 where

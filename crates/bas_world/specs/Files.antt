@@ -37,10 +37,11 @@ read_length bytes at room = min (length bytes - at) room
 abbrev pub overwritten : List ℕ → ℕ → List ℕ → List ℕ
 overwritten bytes at piece = take at (bytes ++ replicate (at - length bytes) 0) ++ piece ++ drop (at + length piece) bytes
 
--- a write of so many bytes at a place was torn: other files stay, and of this one what lies outside of the range
+-- a write of so many bytes at a place was torn: other files stay, and this one is not shorter and keeps what lies outside of the range
 pub record IsTorn (name : List ℕ) (at count : ℕ) (old new : Files) : Type 0 where
   pub others : (other : List ℕ) → other ≢ name → get new other ≡ get old other
   pub there : HasFile new name
+  pub long : length (bytes_at old name) ≤ length (bytes_at new name)
   pub kept : (k : ℕ) → k < length (bytes_at old name) → (k < at) ⊎ (at + count ≤ k) → slice_get (bytes_at new name) k ≡ slice_get (bytes_at old name) k
 
 -- the same of a store that may not tell its files; whether it does stays

@@ -1,4 +1,4 @@
-use Rattle.std.proofs.Common.{◌≡◌, ◌-◌, ◌≤◌, length}
+use Rattle.std.proofs.Common.{◌≡◌, ◌-◌, length}
 use Rattle.bas_drive.proofs.Reading.{HasRead}
 use Rattle.bas_drive.proofs.file.fill.Given as goal
 

@@ -13,7 +13,7 @@ returns-in_err-x c =
 pub loop-term-preserved : goal.loop-term-preserved
 loop-term-preserved c =
     sym (value_after-next (values_in c.args.values.now) c.loop-term.x c.args.terms.now c.loop-term.term-index c.term-item.result c.operand_value-y.result c.in_ok-x.x c.loop-term-test.true c.term-item.is c.operand_value-y.ensures c.in_ok-x.ensures)
-      ∙ c.loop-term.invariant
+    ∙ c.loop-term.invariant
 
 pub returns : goal.returns
 returns c = sym (value_after-end (values_in c.args.values.now) c.loop-term.x c.args.terms.now c.loop-term.term-index c.loop-term-test.false) ∙ c.loop-term.invariant
