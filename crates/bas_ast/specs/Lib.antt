@@ -1,1 +1,9 @@
+pub mod BlockTree
+pub mod ConditionTree
+pub mod DeclarationTree
+pub mod ExpressionTree
+pub mod PartTree
+pub mod RecordTree
+pub mod StatementTree
 pub mod Tree
+pub mod UnitTree

@@ -7,7 +7,7 @@ use bas_base::{Line, Seq};
 use sqlite_items::Items;
 
 /// What stands on a line, without its number and without a remark behind it.
-#[derive(Debug, Drop)]
+#[derive(Drop)]
 pub enum LineItem {
     Nothing,
     /// The bytes behind `REM`.
@@ -18,7 +18,7 @@ pub enum LineItem {
 }
 
 /// A line with its number.
-#[derive(Debug, Drop)]
+#[derive(Drop)]
 pub struct NumLine {
     pub line: Line,
     pub item: LineItem,
@@ -26,7 +26,7 @@ pub struct NumLine {
 
 /// A line of a construct, and the lines up to its next one.
 #[cycle(block)]
-#[derive(Debug, Drop)]
+#[derive(Drop)]
 pub struct Section {
     pub head: NumLine,
     pub body: Block,
@@ -34,7 +34,7 @@ pub struct Section {
 
 /// A line alone, or a construct: its sections, and the line that closes it.
 #[cycle(block)]
-#[derive(Debug, Drop)]
+#[derive(Drop)]
 pub enum Stmt {
     Single(NumLine),
     Nest {
@@ -45,7 +45,7 @@ pub enum Stmt {
 
 /// Lines and constructs in order.
 #[cycle(block)]
-#[derive(Debug, Drop)]
+#[derive(Drop)]
 pub struct Block {
     pub stmts: Items<Stmt>,
 }

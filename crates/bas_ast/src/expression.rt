@@ -38,7 +38,7 @@ pub struct Numeral {
 
 /// `[ + | - ] term { ( + | - | & ) term }`
 #[cycle(expression)]
-#[derive(Debug, Drop)]
+#[derive(Drop)]
 pub struct Expr {
     /// It goes with the first term.
     pub sign: Option<Sign>,
@@ -48,7 +48,7 @@ pub struct Expr {
 
 /// `factor { ( * | / ) factor }`
 #[cycle(expression)]
-#[derive(Debug, Drop)]
+#[derive(Drop)]
 pub struct Term {
     pub first: Factor,
     pub rest: Items<(FactorSign, Factor)>,
@@ -56,7 +56,7 @@ pub struct Term {
 
 /// `primary { ^ primary }`, grouped from the left
 #[cycle(expression)]
-#[derive(Debug, Drop)]
+#[derive(Drop)]
 pub struct Factor {
     pub base: Primary,
     pub exponents: Items<Primary>,
@@ -64,7 +64,7 @@ pub struct Factor {
 
 /// An operand.
 #[cycle(expression)]
-#[derive(Debug, Drop)]
+#[derive(Drop)]
 pub enum Primary {
     Numeral(Numeral),
     /// The bytes between the quotes, with one quote for each doubled one.
@@ -79,14 +79,14 @@ pub enum Primary {
 
 /// `actual { , actual }`; none where the parentheses are not written.
 #[cycle(expression)]
-#[derive(Debug, Drop)]
+#[derive(Drop)]
 pub struct Args {
     pub actuals: Items<Actual>,
 }
 
 /// An argument.
 #[cycle(expression)]
-#[derive(Debug, Drop)]
+#[derive(Drop)]
 pub enum Actual {
     Expr(Expr),
     /// `# expr`
@@ -95,7 +95,7 @@ pub enum Actual {
 
 /// `name [ ( expr { , expr } ) ]`: a variable, or an element where there are subscripts.
 #[cycle(expression)]
-#[derive(Debug, Drop)]
+#[derive(Drop)]
 pub struct Target {
     pub name: Name,
     pub subscripts: Items<Expr>,

@@ -4,7 +4,7 @@ use crate::block::{Block, NumLine};
 use bas_base::{Name, Seq};
 
 /// A program.
-#[derive(Debug, Drop)]
+#[derive(Drop)]
 pub struct Program {
     /// `MAIN` where there is no `PROGRAM` line.
     pub name: Name,
@@ -16,7 +16,7 @@ pub struct Program {
 }
 
 /// An external procedure, or a procedure of a module.
-#[derive(Debug, Drop)]
+#[derive(Drop)]
 pub struct Procedure {
     /// The line that begins with `EXTERNAL`.
     pub head: NumLine,
@@ -25,7 +25,7 @@ pub struct Procedure {
 }
 
 /// A module.
-#[derive(Debug, Drop)]
+#[derive(Drop)]
 pub struct Module {
     /// The `MODULE` line.
     pub head: NumLine,
@@ -37,7 +37,7 @@ pub struct Module {
 }
 
 /// What a source file holds one or more of.
-#[derive(Debug, Drop)]
+#[derive(Drop)]
 pub enum Unit {
     Program(Program),
     Procedure(Procedure),
