@@ -1,0 +1,9 @@
+pub mod BlockTrees
+pub mod ConditionTrees
+pub mod DeclarationTrees
+pub mod ExpressionTrees
+pub mod LineTrees
+pub mod PartTrees
+pub mod RecordTrees
+pub mod StatementTrees
+pub mod UnitTrees

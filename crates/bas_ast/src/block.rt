@@ -4,7 +4,7 @@ use crate::declaration::Decl;
 use crate::part::Part;
 use crate::statement::Simple;
 use bas_base::{Line, Seq};
-use sqlite_items::Items;
+use sqlite_items::{Boxed, Items};
 
 /// What stands on a line, without its number and without a remark behind it.
 #[derive(Drop)]
@@ -12,9 +12,9 @@ pub enum LineItem {
     Nothing,
     /// The bytes behind `REM`.
     Rem(Seq<u8>),
-    Simple(Simple),
-    Part(Part),
-    Decl(Decl),
+    Simple(Boxed<Simple>),
+    Part(Boxed<Part>),
+    Decl(Boxed<Decl>),
 }
 
 /// A line with its number.

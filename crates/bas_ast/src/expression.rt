@@ -42,7 +42,7 @@ pub struct Numeral {
 pub struct Expr {
     /// It goes with the first term.
     pub sign: Option<Sign>,
-    pub first: Term,
+    pub first: Boxed<Term>,
     pub rest: Items<(TermSign, Term)>,
 }
 

@@ -9,6 +9,7 @@ mod block;
 mod condition;
 mod declaration;
 mod expression;
+pub mod laws;
 mod part;
 mod record_statement;
 mod statement;

@@ -4,6 +4,7 @@ use crate::condition::Cond;
 use crate::expression::{Args, Expr, Target};
 use crate::record_statement::{Attr, Chan, Miss, Setter};
 use bas_base::{Line, Name, Seq};
+use sqlite_items::Boxed;
 
 /// `target { , target }`
 #[derive(Drop)]
@@ -88,7 +89,7 @@ pub enum Plain {
 #[derive(Drop)]
 pub enum Branch {
     Number(Line),
-    Plain(Plain),
+    Plain(Boxed<Plain>),
 }
 
 /// A statement.
@@ -98,7 +99,7 @@ pub enum Simple {
     /// `IF cond THEN branch [ ELSE branch ]`
     If(Cond, Branch, Option<Branch>),
     /// `ON expr GOTO number { , number } [ ELSE plain ]`
-    OnGoto(Expr, Seq<Line>, Option<Plain>),
+    OnGoto(Expr, Seq<Line>, Option<Boxed<Plain>>),
     /// `ON expr GOSUB number { , number } [ ELSE plain ]`
-    OnGosub(Expr, Seq<Line>, Option<Plain>),
+    OnGosub(Expr, Seq<Line>, Option<Boxed<Plain>>),
 }
