@@ -2,7 +2,9 @@ pub mod BlockTrees
 pub mod ConditionTrees
 pub mod DeclarationTrees
 pub mod ExpressionTrees
+pub mod FirstLine
 pub mod LineTrees
+pub mod Lone
 pub mod PartTrees
 pub mod RecordTrees
 pub mod StatementTrees
