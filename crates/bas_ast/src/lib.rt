@@ -13,6 +13,8 @@ pub mod laws;
 mod part;
 mod record_statement;
 mod statement;
+#[cfg(test)]
+mod tests;
 mod unit;
 
 pub use block::{Block, LineItem, NumLine, Section, Stmt};
