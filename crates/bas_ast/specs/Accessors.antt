@@ -1,5 +1,5 @@
 -- What the accessors tell of a plain tree.
-use Rattle.std.specs.Prelude.{ℕ, List, [], ◌∷◌, Option, Some, None, Bool, true, false, if◌then◌else◌}
+use Rattle.std.specs.Prelude.{ℕ, List, Option, Some, None, Bool, true, false, if◌then◌else◌}
 use Rattle.bas_dec.specs.Number.{Number}
 use Rattle.bas_ast.specs.Tree as t
 

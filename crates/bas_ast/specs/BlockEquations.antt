@@ -1,5 +1,5 @@
 -- The equations of the plain trees of blocks.
-use Rattle.std.specs.Prelude.{◌≡◌, List, [], ◌∷◌, map}
+use Rattle.std.specs.Prelude.{◌≡◌, List}
 use Rattle.bas_ast.specs.Tree as t
 use Rattle.bas_ast.specs.BlockTree.{line_tree, stmt_tree, block_tree, section_tree, sections_tree, stmts_tree}
 use Rattle.bas_ast.specs.declared.block.NumLine.{NumLine}

@@ -1,5 +1,5 @@
 -- The equations of the plain trees of conditions.
-use Rattle.std.specs.Prelude.{◌≡◌, List, [], ◌∷◌, map}
+use Rattle.std.specs.Prelude.{◌≡◌}
 use Rattle.bas_ast.specs.Tree as t
 use Rattle.bas_ast.specs.ExpressionTree.{expr_tree}
 use Rattle.bas_ast.specs.ConditionTree.{rel_tree, test_tree, cond_tree, conj_tree, conjs_tree, tests_tree}

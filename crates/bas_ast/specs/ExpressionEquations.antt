@@ -1,8 +1,8 @@
 -- The equations of the plain trees of expressions.
-use Rattle.std.specs.Prelude.{◌≡◌, ℕ, List, [], ◌∷◌, map}
+use Rattle.std.specs.Prelude.{◌≡◌, ℕ, List}
 use Rattle.std.specs.Option.{option_map}
 use Rattle.bas_ast.specs.Tree as t
-use Rattle.bas_ast.specs.ExpressionTree.{sign_tree, term_sign_tree, factor_sign_tree, numeral_tree, actual_tree, primary_tree, args_tree, expr_tree, factor_tree, target_tree, term_tree, actuals_tree, terms_tree, primaries_tree, exprs_tree, factors_tree}
+use Rattle.bas_ast.specs.ExpressionTree.{sign_tree, numeral_tree, actual_tree, primary_tree, args_tree, expr_tree, factor_tree, target_tree, term_tree, actuals_tree, terms_tree, primaries_tree, exprs_tree, factors_tree}
 use Rattle.bas_ast.specs.declared.expression.Numeral.{Numeral}
 use Rattle.bas_ast.specs.declared.expression.Actual.{Actual}
 use Rattle.bas_ast.specs.declared.expression.Primary.{Primary}

@@ -1,5 +1,5 @@
 -- The plain tree of an expression: each layer with the plain trees of its parts in their places.
-use Rattle.std.specs.Prelude.{ℕ, List, [], ◌∷◌, Option, Some, None, map}
+use Rattle.std.specs.Prelude.{List, [], ◌∷◌}
 use Rattle.std.specs.Option.{option_map}
 use Rattle.bas_ast.specs.Tree as t
 use Rattle.bas_ast.specs.declared.expression.Sign.{Sign}

@@ -1,12 +1,11 @@
 -- The plain trees of statements.
-use Rattle.std.specs.Prelude.{ℕ, List, Option, Bool, map}
+use Rattle.std.specs.Prelude.{List, Option, map}
 use Rattle.std.specs.Option.{option_map}
 use Rattle.bas_ast.specs.Tree as t
 use Rattle.bas_ast.specs.ExpressionTree.{expr_tree, target_tree, args_tree}
 use Rattle.bas_ast.specs.ConditionTree.{cond_tree}
 use Rattle.bas_ast.specs.RecordTree.{chan_tree, setter_tree, miss_tree, attr_tree}
 use Rattle.bas_ast.specs.declared.expression.Expr.{Expr}
-use Rattle.bas_ast.specs.declared.expression.Target.{Target}
 use Rattle.bas_ast.specs.declared.statement.Targets.{Targets}
 use Rattle.bas_ast.specs.declared.statement.Sep.{Sep}
 use Rattle.bas_ast.specs.declared.statement.Sep.TheVariants.{Comma, Semicolon}
