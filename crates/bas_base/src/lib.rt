@@ -5,13 +5,17 @@
 //! the accessor gives the value back: a name in capitals, every other value as it was.
 #![tactic(auto)]
 
+mod examples;
 mod exception;
 mod file_name;
 mod line;
 mod name;
 mod seq;
+#[cfg(test)]
+mod tests;
 mod text;
 
+pub use examples::{worked_file_names, worked_names};
 pub use exception::{Ex, ExAt};
 pub use file_name::{BadName, FileName};
 pub use line::Line;

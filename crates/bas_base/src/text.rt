@@ -1,5 +1,7 @@
-ghost use Rattle.std.specs.Prelude.{◌≡◌, ◌≤◌, ◌<◌, ◌↔◌, length, IsTrue, take, drop, slice_set, ◌++◌, map};
-ghost use Rattle.bas_base.specs.Names.{is_word_byte, is_file_byte, IsWord, IsName, IsFileName, stem_of, padded_text};
+ghost use Rattle.std.specs.Prelude.{◌≡◌, ◌≤◌, length, IsTrue, slice_index};
+ghost use Rattle.std.specs.List.{list_all};
+ghost use Rattle.std.specs.Char.{is_ascii_alphabetic, is_ascii_alphanumeric};
+ghost use Rattle.bas_base.specs.Names.{is_word_byte, is_file_byte, is_word, is_name, is_file_name, stem_of, padded_text};
 
 /// The most bytes of a name.
 pub const NAME_BYTES: usize = 31;
@@ -19,10 +21,34 @@ fn is_file_byte(c: u8) -> bool
     c.is_ascii_alphanumeric() || c == b'.' || c == b'_' || c == b'-'
 }
 
-fn is_word(text: &[u8]) -> bool
-    ensures { IsTrue result ↔ IsWord text.now }
+fn has_word_bytes(text: &[u8]) -> bool
+    ensures { result ≡ list_all is_word_byte text.now }
 {
-    !text.is_empty() && text[0].is_ascii_alphabetic() && text.iter().all(|c| is_word_byte(*c))
+    text.iter().all(|c| is_word_byte(*c))
+}
+
+fn has_file_bytes(text: &[u8]) -> bool
+    ensures { result ≡ list_all is_file_byte text.now }
+{
+    text.iter().all(|c| is_file_byte(*c))
+}
+
+fn begins_with_letter(text: &[u8]) -> bool
+    ensures { result ≡ is_ascii_alphabetic (slice_index text.now 0) }
+{
+    !text.is_empty() && text[0].is_ascii_alphabetic()
+}
+
+fn begins_with_letter_or_digit(text: &[u8]) -> bool
+    ensures { result ≡ is_ascii_alphanumeric (slice_index text.now 0) }
+{
+    !text.is_empty() && text[0].is_ascii_alphanumeric()
+}
+
+fn is_word(text: &[u8]) -> bool
+    ensures { result ≡ is_word text.now }
+{
+    begins_with_letter(text) && has_word_bytes(text)
 }
 
 // What stands in front of a `$` at the end, or the whole text.
@@ -38,18 +64,17 @@ fn stem_of(text: &[u8]) -> &[u8]
 }
 
 pub fn is_name(text: &[u8]) -> bool
-    ensures { IsTrue result ↔ IsName text.now }
+    ensures value { result ≡ is_name text.now }
+    ensures short { IsTrue result → length text.now ≤ 31 }
 {
     text.len() <= NAME_BYTES && is_word(stem_of(text))
 }
 
 pub fn is_file_name(text: &[u8]) -> bool
-    ensures { IsTrue result ↔ IsFileName text.now }
+    ensures value { result ≡ is_file_name text.now }
+    ensures short { IsTrue result → length text.now ≤ 68 }
 {
-    text.len() <= FILE_NAME_BYTES
-        && !text.is_empty()
-        && text[0].is_ascii_alphanumeric()
-        && text.iter().all(|c| is_file_byte(*c))
+    text.len() <= FILE_NAME_BYTES && begins_with_letter_or_digit(text) && has_file_bytes(text)
 }
 
 /// The text in a buffer, with zeros behind it.

@@ -1,9 +1,10 @@
 -- The lowest form: what is taken off, and what stays.
-use Rattle.std.proofs.Common.{◌≡◌, ℕ, zero, suc, ◌-◌, ◌*◌, ◌/◌, ◌%◌, ◌^◌, ◌<◌, ◌≤◌, ◌==◌, arith, refl, sym, Bool, true, false, inl, inr, subst}
+use Rattle.std.proofs.Common.{◌≡◌, ℕ, zero, suc, ◌+◌, ◌-◌, ◌*◌, ◌/◌, ◌%◌, ◌^◌, ◌<◌, ◌≤◌, ◌==◌, arith, refl, ap, ◌∙◌, sym, Bool, true, false, inl, inr, subst, add-zero, add-suc}
 use Rattle.std.specs.Prelude.{unsigned_abs}
 use Rattle.std.proofs.Math.Numerals.{sub-one}
 use Rattle.std.proofs.lemmas.Bool.{ne_eqb}
-use Rattle.std.proofs.Math.Nat.{pow-suc, eq-zero-or-pos}
+use Rattle.std.proofs.lemmas.Nat.{div-add-mod', pow-add}
+use Rattle.std.proofs.Math.Nat.{pow-suc, eq-zero-or-pos, mul-mod_left}
 use Rattle.bas_dec.specs.Number.{signed, with_sign, stripped, low, number_of}
 
 pub stripped_zero : (n s : ℕ) → 0 < s → n % 10 ≡ 0 → stripped n s ≡ stripped (n / 10) (s - 1)
@@ -15,6 +16,38 @@ pub stripped_nonzero : (n s : ℕ) → (0 < s → 0 < n % 10) → stripped n s �
 unfolding stripped
 stripped_nonzero n zero h = refl
 stripped_nonzero n (suc s) h = let off : (n % 10 == 0) ≡ false = ne_eqb _ _ (λ e. omega (arith, h (omega arith))) in rw off refl
+
+raised_once : (n s : ℕ) → stripped (n * 10) (suc s) ≡ stripped n s
+raised_once n s = stripped_zero (n * 10) (suc s) (omega arith) (omega arith) ∙ ap (λ m. stripped m (suc s - 1)) (omega arith) ∙ ap (stripped n) (omega arith)
+
+-- zeros put behind a number are taken off again
+pub stripped_raised : (n s k : ℕ) → stripped (n * 10 ^ k) (s + k) ≡ stripped n s
+stripped_raised n s zero = ap (λ m. stripped m (s + 0)) (omega arith) ∙ ap (stripped n) (add-zero s)
+stripped_raised n s (suc k) =
+    let one : n * 10 ^ suc k ≡ n * 10 ^ k * 10 = rw pow-suc (omega arith) in
+    rw (one, add-suc) (raised_once (n * 10 ^ k) (s + k) ∙ stripped_raised n s k)
+
+-- k zeros are taken off at once
+pub stripped_zeros : (n s k : ℕ) → k ≤ s → n % 10 ^ k ≡ 0 → stripped n s ≡ stripped (n / 10 ^ k) (s - k)
+stripped_zeros n s k h e =
+    let digits : n ≡ n / 10 ^ k * 10 ^ k = omega (arith, div-add-mod' n (10 ^ k)) in
+    let places : s ≡ s - k + k = omega arith in
+    ap (λ m. stripped m s) digits ∙ ap (stripped (n / 10 ^ k * 10 ^ k)) places ∙ stripped_raised (n / 10 ^ k) (s - k) k
+
+-- where fewer than twice z zeros stand at the end, fewer than z are left without z
+pub fewer_zeros : (n z : ℕ) → n % 10 ^ z ≡ 0 → 0 < n % 10 ^ (2 * z) → 0 < n / 10 ^ z % 10 ^ z
+fewer_zeros n z e h = elim (eq-zero-or-pos (n / 10 ^ z % 10 ^ z)) [
+  | inl none ↦
+      let p : ℕ = 10 ^ z in
+      let q : ℕ = n / p in
+      let once : n ≡ q * p = omega (arith, div-add-mod' n p) in
+      let twice : q ≡ q / p * p = omega (arith, div-add-mod' q p) in
+      let both : n ≡ q / p * (p * p) = once ∙ ap (λ m. m * p) twice ∙ omega arith in
+      let square : 10 ^ (2 * z) ≡ p * p = ap (λ k. 10 ^ k) (omega arith) ∙ pow-add 10 z z in
+      let rest : n % 10 ^ (2 * z) ≡ 0 = ap (λ m. n % m) square ∙ ap (λ m. m % (p * p)) both ∙ mul-mod_left (q / p) (p * p) in
+      absurd (omega (arith, h, rest))
+  | inr some ↦ some
+]
 
 -- m / 10 ^ t is n / 10 ^ s without the zeros at the end of its fraction
 pub record IsStripped (n s m t : ℕ) : Type 0 where
@@ -62,9 +95,7 @@ size_signed true zero = refl
 size_signed true (suc n) = refl
 
 pub low_stripped : (b : Bool) (n s m t : ℕ) → (m, t) ≡ stripped n s → number_of (signed b m) t ≡ low (signed b n) s
+unfolding low
 low_stripped b n s m t e =
     let left : IsStripped n s m t = is_stripped _ _ _ _ e in
     rw (size_signed b n, ← e, sign_kept b n m left.size) refl
-
-pub lowest_left : (n s m t : ℕ) → (m, t) ≡ stripped n s → 0 < t → 0 < m % 10
-lowest_left n s m t e = let left : IsStripped n s m t = is_stripped _ _ _ _ e in left.lowest

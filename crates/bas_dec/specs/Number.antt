@@ -8,9 +8,13 @@ pub record Number : Type 0 where
   pub coefficient : ℤ
   pub scale : ℕ
 
+-- what the size of a coefficient stays below
+abbrev pub limit : ℕ
+limit = 10 ^ 38
+
 -- fewer than 39 digits, no more places than there may be, and no zero at the end of a fraction
 pub record IsNumber (x : Number) : Type 0 where
-  pub small : unsigned_abs x.coefficient < 10 ^ 38
+  pub small : unsigned_abs x.coefficient < limit
   pub places : x.scale ≤ PLACES
   pub lowest : 0 < x.scale → 0 < unsigned_abs x.coefficient % 10
 
@@ -31,13 +35,13 @@ stripped n (suc s) = if n % 10 == 0 then stripped (n / 10) s else (n, suc s)
 
 -- the pair, where a number may have its size and its places
 abbrev pub number_of : ℤ → ℕ → Option Number
-number_of c s = if nat_lt (unsigned_abs c) (10 ^ 38) && nat_le s PLACES then Some (record { coefficient = c; scale = s }) else None
+number_of c s = if nat_lt (unsigned_abs c) limit && nat_le s PLACES then Some (record { coefficient = c; scale = s }) else None
 
 -- c / 10 ^ s in lowest form, or None where no number has that value
-abbrev pub low : ℤ → ℕ → Option Number
+unfoldable pub low : ℤ → ℕ → Option Number
 low c s = let p = stripped (unsigned_abs c) s in number_of (with_sign c p.0) p.1
 
--- p / q for a positive q, rounded to a whole number, to the nearest, and away from zero at a half
+-- p / q for a positive q, rounded to a whole number: to the nearest, and away from zero at a half
 abbrev pub rounded : ℤ → ℕ → ℤ
 rounded p q = with_sign p ((2 * unsigned_abs p + q) / (2 * q))
 

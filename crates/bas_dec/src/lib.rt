@@ -6,16 +6,29 @@
 #![tactic(auto)]
 
 mod fault;
+pub mod laws;
 mod number;
+mod numeral;
+mod strip;
+mod text;
 mod types;
+mod wide;
 mod words;
 
 pub use fault::DecFault;
 pub use number::Dec;
+pub use numeral::{
+    Numeral, form_gives_answer, form_has_one_reading, not_numeral_without_form, read_numeral,
+    worked_numerals,
+};
+pub use text::{printed_number_reads_back, worked_texts};
 pub use types::{FixType, NumType};
 
 /// The most places that a number has behind its point.
 pub const PLACES: u8 = 18;
 
-/// The fewest places that a product, a quotient or a root is computed to.
+/// The fewest places that a product, a quotient or the square under a root is computed to.
 pub const SHORT: u8 = 18;
+
+/// The largest exponent, in size, of a number other than 0, 1 and -1.
+pub const LARGEST_EXPONENT: u16 = 4096;

@@ -1,10 +1,16 @@
+mod order;
+mod power;
+mod products;
+mod quotients;
+mod rounding;
 mod sums;
 
-ghost use Rattle.std.specs.Prelude.{◌≡◌, ℕ, ◌%◌, ◌<◌, ◌≤◌};
+ghost use Rattle.std.specs.Prelude.{◌≡◌, ℕ, ◌%◌, ◌<◌, ◌≤◌, unsigned_abs, IfOk};
 
 use crate::PLACES;
 use crate::fault::DecFault;
-use crate::words::{LIMIT, raised, signed, strip};
+use crate::strip::strip;
+use crate::words::{LIMIT, raised, signed};
 use std::marker::Model;
 
 /// A decimal number, in lowest form: its coefficient has at most 38 digits and its fraction at most
@@ -28,8 +34,18 @@ impl Model for Dec {
 }
 
 impl Dec {
-    ghost use Rattle.bas_dec.specs.Number.{low, number_of, signed as signed_of};
+    ghost use Rattle.bas_dec.specs.Number.{IsNumber, limit, low, number_of, signed as signed_of};
     ghost use Rattle.bas_dec.specs.Arithmetic.{number_at, aligned as aligned_of};
+
+    const ZERO: Dec = Dec {
+        coefficient: 0,
+        scale: 0,
+    };
+
+    const ONE: Dec = Dec {
+        coefficient: 1,
+        scale: 0,
+    };
 
     /// The number `c / 10^s`, or `None` where no number has that value.
     pub fn of_parts(c: i128, s: u8) -> Option<Dec>
@@ -59,10 +75,11 @@ impl Dec {
         Some(Dec { coefficient, scale })
     }
 
-    /// The coefficient and the scale.
+    /// The coefficient and the scale, which are in lowest form.
     pub fn parts(self) -> (i128, u8)
         ensures coefficient { result.0 ≡ self.coefficient }
         ensures scale { result.1 ≡ self.scale }
+        ensures number { IsNumber self }
     {
         (self.coefficient, self.scale)
     }
@@ -77,7 +94,9 @@ impl Dec {
     /// The coefficient at `scale` places.
     fn aligned(self, scale: u8) -> Result<i128, DecFault>
         requires { self.scale ≤ scale }
-        ensures { result ≡ aligned_of self scale }
+        ensures value { result ≡ aligned_of self scale }
+        ensures small { IfOk result (λ a. unsigned_abs a < limit) }
+        ensures nonzero { IfOk result (λ a. 0 < unsigned_abs self.coefficient → 0 < unsigned_abs a) }
     {
         raised(self.coefficient, scale - self.scale)
     }

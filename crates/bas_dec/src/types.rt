@@ -1,3 +1,5 @@
+ghost use Rattle.std.specs.Prelude.{◌≡◌};
+
 use crate::PLACES;
 use std::marker::Model;
 
@@ -24,6 +26,15 @@ impl Model for FixType {
 impl FixType {
     ghost use Rattle.std.specs.Option.{SomeIff};
     ghost use Rattle.bas_dec.specs.Fixed.{IsFixed};
+
+    /// The digits before the point and behind it.
+    pub(crate) fn digits(self) -> (u8, u8)
+        ensures whole { result.0 ≡ self.whole }
+        ensures places { result.1 ≡ self.places }
+        ensures fixed { IsFixed self }
+    {
+        (self.whole, self.places)
+    }
 
     /// The type with `m` digits before the point and `n` behind it, where there is such a type.
     pub fn of(m: u8, n: u8) -> Option<FixType>
