@@ -16,7 +16,7 @@ pub enum Rel {
 
 /// `conj { OR conj }`
 #[cycle(condition)]
-#[derive(Debug, Drop)]
+#[derive(Drop)]
 pub struct Cond {
     pub first: Conj,
     pub rest: Items<Conj>,
@@ -24,7 +24,7 @@ pub struct Cond {
 
 /// `test { AND test }`
 #[cycle(condition)]
-#[derive(Debug, Drop)]
+#[derive(Drop)]
 pub struct Conj {
     pub first: Test,
     pub rest: Items<Test>,
@@ -32,7 +32,7 @@ pub struct Conj {
 
 /// What `AND` and `OR` join.
 #[cycle(condition)]
-#[derive(Debug, Drop)]
+#[derive(Drop)]
 pub enum Test {
     Not(Boxed<Test>),
     /// `( cond )`

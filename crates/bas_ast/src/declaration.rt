@@ -18,7 +18,7 @@ pub struct Bound {
 }
 
 /// `name [ ( bound { , bound } ) ] [ type ]`: an array where there are bounds.
-#[derive(Debug, Drop)]
+#[derive(Drop)]
 pub struct DeclaredItem {
     pub name: Name,
     pub bounds: Seq<Bound>,
@@ -26,7 +26,7 @@ pub struct DeclaredItem {
 }
 
 /// What is declared, separated by commas.
-#[derive(Debug, Drop)]
+#[derive(Drop)]
 pub struct Items {
     pub items: Seq<DeclaredItem>,
 }
@@ -46,7 +46,7 @@ pub enum ProcedureKind {
 }
 
 /// A declaration.
-#[derive(Debug, Drop)]
+#[derive(Drop)]
 pub enum Decl {
     OptionBaseZero,
     OptionBaseOne,

@@ -9,9 +9,12 @@ mod block;
 mod condition;
 mod declaration;
 mod expression;
+pub mod laws;
 mod part;
 mod record_statement;
 mod statement;
+#[cfg(test)]
+mod tests;
 mod unit;
 
 pub use block::{Block, LineItem, NumLine, Section, Stmt};

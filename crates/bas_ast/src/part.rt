@@ -6,14 +6,14 @@ use bas_base::{Name, Seq};
 use bas_text::StrVal;
 
 /// A constant of a `CASE` line.
-#[derive(Debug, Drop)]
+#[derive(Drop)]
 pub enum Const {
     Numeral(Option<Sign>, Numeral),
     Quoted(StrVal),
 }
 
 /// What a `CASE` line takes.
-#[derive(Debug, Drop)]
+#[derive(Drop)]
 pub enum Case {
     Const(Const),
     /// `const TO const`
@@ -32,20 +32,20 @@ pub enum Formal {
 }
 
 /// `( formal { , formal } )`; none where the parentheses are not written.
-#[derive(Debug, Drop)]
+#[derive(Drop)]
 pub struct Formals {
     pub formals: Seq<Formal>,
 }
 
 /// The condition of a `DO` or `LOOP` line.
-#[derive(Debug, Drop)]
+#[derive(Drop)]
 pub enum Loopc {
     While(Cond),
     Until(Cond),
 }
 
 /// A line that opens, divides or closes a construct, a procedure or a unit.
-#[derive(Debug, Drop)]
+#[derive(Drop)]
 pub enum Part {
     If(Cond),
     Elseif(Cond),

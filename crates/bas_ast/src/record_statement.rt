@@ -4,13 +4,13 @@ use crate::expression::Expr;
 use bas_base::Line;
 
 /// `# expr`
-#[derive(Debug, Drop)]
+#[derive(Drop)]
 pub struct Chan {
     pub number: Expr,
 }
 
 /// Where a statement sets the pointer of a file.
-#[derive(Debug, Drop)]
+#[derive(Drop)]
 pub enum Setter {
     Begin,
     End,

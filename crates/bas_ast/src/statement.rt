@@ -4,9 +4,10 @@ use crate::condition::Cond;
 use crate::expression::{Args, Expr, Target};
 use crate::record_statement::{Attr, Chan, Miss, Setter};
 use bas_base::{Line, Name, Seq};
+use sqlite_items::Boxed;
 
 /// `target { , target }`
-#[derive(Debug, Drop)]
+#[derive(Drop)]
 pub struct Targets {
     pub targets: Seq<Target>,
 }
@@ -19,7 +20,7 @@ pub enum Sep {
 }
 
 /// An item of a print list.
-#[derive(Debug, Drop)]
+#[derive(Drop)]
 pub enum Pitem {
     Expr(Expr),
     /// `TAB ( expr )`
@@ -27,14 +28,14 @@ pub enum Pitem {
 }
 
 /// `[ pitem ] { sep [ pitem ] }`
-#[derive(Debug, Drop)]
+#[derive(Drop)]
 pub struct Plist {
     pub first: Option<Pitem>,
     pub rest: Seq<(Sep, Option<Pitem>)>,
 }
 
 /// A statement that may stand in a one-line `IF`.
-#[derive(Debug, Drop)]
+#[derive(Drop)]
 pub enum Plain {
     /// The targets and the value.
     Let(Targets, Expr),
@@ -85,20 +86,20 @@ pub enum Plain {
 }
 
 /// A part of a one-line `IF`: `number | plain`
-#[derive(Debug, Drop)]
+#[derive(Drop)]
 pub enum Branch {
     Number(Line),
-    Plain(Plain),
+    Plain(Boxed<Plain>),
 }
 
 /// A statement.
-#[derive(Debug, Drop)]
+#[derive(Drop)]
 pub enum Simple {
     Plain(Plain),
     /// `IF cond THEN branch [ ELSE branch ]`
     If(Cond, Branch, Option<Branch>),
     /// `ON expr GOTO number { , number } [ ELSE plain ]`
-    OnGoto(Expr, Seq<Line>, Option<Plain>),
+    OnGoto(Expr, Seq<Line>, Option<Boxed<Plain>>),
     /// `ON expr GOSUB number { , number } [ ELSE plain ]`
-    OnGosub(Expr, Seq<Line>, Option<Plain>),
+    OnGosub(Expr, Seq<Line>, Option<Boxed<Plain>>),
 }
