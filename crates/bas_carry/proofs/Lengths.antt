@@ -1,17 +1,18 @@
 -- The codes that the functions make have the sizes that the functions say.
 use Rattle.std.proofs.Common.{◌≡◌, ℕ, suc, ◌+◌, Bool, true, false, List, [], ◌∷◌, ◌++◌, length, Option, Some, None, refl, ap, ◌∙◌, arith}
-use Rattle.bas_ast.specs.Tree.{Sign, Plus, Minus, TermSign, Add, Subtract, Join, FactorSign, Multiply, Divide, Rel, Expr, Sum, Terms, NoTerms, MoreTerms, Term, Product, Factors, NoFactors, MoreFactors, Factor, Power, Primaries, NoPrimaries, MorePrimaries, Primary, Numeric, Group, Named, Cond, AnyOf, Conjs, NoConjs, MoreConjs, Conj, AllOf, Tests, NoTests, MoreTests, Test, Not, CondGroup, Compare, Variable, Pitem, Printed, Plain, Let, Print, Goto, ExitDo, Simple, Alone, Loopc, While, Until, Part, If, Elseif, Else, Do, Loop, End, LineItem, OfSimple, OfPart, NumLine, Stmt, Single, Nest, Sections, NoSections, MoreSections, Block, NoStmts, MoreStmts}
+use Rattle.bas_ast.specs.Tree.{Sign, Plus, Minus, TermSign, Add, Subtract, Join, FactorSign, Multiply, Divide, Rel, Expr, Sum, Terms, NoTerms, MoreTerms, Term, Product, Factors, NoFactors, MoreFactors, Factor, Power, Primaries, NoPrimaries, MorePrimaries, Primary, Numeric, Group, Named, Cond, AnyOf, Conjs, NoConjs, MoreConjs, Conj, AllOf, Tests, NoTests, MoreTests, Test, Not, CondGroup, Compare, Variable, Pitem, Printed, Plain, Let, Print, Goto, ExitDo, Simple, Alone, Loopc, While, Until, Part, If, Elseif, Else, Do, Loop, End, LineItem, OfSimple, OfPart, NumLine, Stmt, Single, Nest, Sections, NoSections, MoreSections, Block, NoStmts, MoreStmts, Program}
 use Rattle.bas_ast.specs.Tree as tree
 use Rattle.bas_mean.specs.World as world
 use Rattle.bas_mean.specs.Outcome.{Target, EndOf}
 use Rattle.bas_mean.specs.Place.{Around}
 use Rattle.bas_mean.specs.Construct.{in_do}
+use Rattle.bas_mean.specs.Meaning.{outermost}
 use Rattle.bas_code.specs.declared.instr.Instr.{Instr}
 use Rattle.bas_code.specs.declared.instr.Instr.TheVariants as instr
 use Rattle.bas_code.specs.declared.instr.JumpInstr.TheVariants as jump
 use Rattle.bas_code.specs.declared.instr.StoreInstr.TheVariants as store
 use Rattle.bas_carry.specs.Constructs.{is_last}
-use Rattle.bas_carry.specs.Codes.{sign_size, term_sign_size, expr_size, terms_size, term_size, factors_size, factor_size, exponents_size, primary_size, cond_size, conjs_size, conj_size, tests_size, test_size, loopc_size, let_size, print_size, plain_size, single_size, closing_size, part_end_size, section_size, stmt_size, sections_size, block_size, sign_code, term_sign_code, factor_sign_code, expr_code, terms_code, term_code, factors_code, factor_code, exponents_code, primary_code, fork_code, unless_code, unless_any_code, if_code, if_any_code, unless_all_code, unless_each_code, if_all_code, if_each_code, unless_test_code, if_test_code, loopc_code, let_code, print_code, exit_code, plain_code, single_code, closing_code, part_end_code, section_code, stmt_code, sections_code, block_code}
+use Rattle.bas_carry.specs.Codes.{sign_size, term_sign_size, expr_size, terms_size, term_size, factors_size, factor_size, exponents_size, primary_size, cond_size, conjs_size, conj_size, tests_size, test_size, loopc_size, let_size, print_size, plain_size, single_size, closing_size, part_end_size, section_size, stmt_size, sections_size, block_size, sign_code, term_sign_code, factor_sign_code, expr_code, terms_code, term_code, factors_code, factor_code, exponents_code, primary_code, fork_code, unless_code, unless_any_code, if_code, if_any_code, unless_all_code, unless_each_code, if_all_code, if_each_code, unless_test_code, if_test_code, loopc_code, let_code, print_code, exit_code, plain_code, single_code, closing_code, part_end_code, section_code, stmt_code, sections_code, block_code, program_code}
 use Rattle.bas_carry.proofs.Cells.{length_both}
 
 -- two pieces of known lengths
@@ -176,3 +177,8 @@ module _ (order : List world.Variable) where
       pub block_length : (b : Block) (around : Around) (from : ℕ) → length (block_code order addr around b from) ≡ block_size b
       block_length NoStmts around from = refl
       block_length (MoreStmts s rest) around from = both (stmt_code order addr around s from) _ _ _ (stmt_length s around from) (block_length rest around (from + stmt_size s))
+
+    pub program_length : (p : Program) → length (program_code order addr p) ≡ block_size p.body + closing_size p.close.item
+    program_length p = both (block_code order addr outermost p.body 0) (closing_code order addr 0 p.close.line p.close.item (block_size p.body)) _ _ (block_length p.body outermost 0) (closing_length 0 p.close.line p.close.item (block_size p.body))
+
+pub ruleset lengths = (expr_length, unless_length, if_length, loopc_length, stmt_length, block_length, program_length)

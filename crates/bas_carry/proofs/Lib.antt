@@ -16,3 +16,4 @@ pub mod Targets
 pub mod Numbering
 pub mod Made
 pub mod Samples
+pub mod Parts

@@ -1,5 +1,5 @@
 -- What the functions make of a program carries it.
-use Rattle.std.proofs.Common.{◌≡◌, ℕ, suc, ◌+◌, Bool, true, false, List, [], ◌∷◌, ◌++◌, length, Option, Some, None, refl, sym, ap, ◌∙◌, subst, arith, is_some}
+use Rattle.std.proofs.Common.{◌≡◌, ℕ, suc, ◌+◌, Bool, true, false, List, [], ◌∷◌, ◌++◌, length, Option, Some, None, refl, sym, ap, ◌∙◌, subst, arith, is_some, ⊎_elim}
 use Rattle.std.specs.Prelude.{◌&&◌, ◌||◌, slice_get}
 use Rattle.std.proofs.lemmas.Bool.{eq-eqb}
 use Rattle.bas_ast.specs.Tree.{Cond, Loopc, Alone, IfThen, OnGoto, OnGosub, If, Elseif, Else, Do, Loop, End, LineItem, OfSimple, OfPart, NumLine, Stmt, Single, Nest, Sections, NoSections, MoreSections, Block, NoStmts, MoreStmts, Program}
@@ -23,11 +23,11 @@ use Rattle.bas_carry.specs.Carries.{StmtAt, SectionsAt, LinesAt, top_static, Pro
 use Rattle.bas_carry.specs.Slots.{in_cond, in_loopc, in_line, in_stmt, in_sections, in_block, index_of, slots_of}
 use Rattle.bas_carry.specs.Codes.{cond_size, loopc_size, single_size, closing_size, part_end_size, sections_size, stmt_size, block_size, unless_code, loopc_code, single_code, closing_code, part_end_code, if_section_code, do_section_code, stmt_code, sections_code, block_code, program_code}
 use Rattle.bas_carry.specs.Tables.{entry, single_rows, closing_rows, if_section_rows, do_section_rows, stmt_rows, sections_rows, block_rows, closing_labels, stmt_labels, sections_labels, block_labels, addresses_of, program_rows, Sound, IsMade, MadeIsCarried}
-use Rattle.bas_carry.proofs.Lengths.{unless_length, loopc_length, closing_length, stmt_length, block_length}
+use Rattle.bas_carry.proofs.Lengths.{unless_length, loopc_length, closing_length, stmt_length, block_length, program_length}
 use Rattle.bas_carry.proofs.Stands.{both_left, both_right, placed, Covered, covered_front, covered_back, StandsAt, stand_split, stand_all, Agrees_on, unless_stands, loopc_stands, simple_stands}
 use Rattle.bas_carry.proofs.Entries.{Finds, FindsAll, finds_front, finds_back, finds_own, Within, within_both, block_within, closing_within}
 use Rattle.bas_carry.proofs.Targets.{Solves, solves_front, solves_back, program_solves}
-use Rattle.bas_carry.proofs.Numbering.{first_distinct, index_get, all_first, all_covered, none_first}
+use Rattle.bas_carry.proofs.Numbering.{first_distinct, index_get, all_first, all_covered, all_used, none_first}
 
 module _ (text : Text) (order : List world.Variable) (places : (x : world.Variable) → text.places x ≡ placed (index_of order x)) where
   abbrev Rows_stand : List LineEntry → Type 0
@@ -240,12 +240,14 @@ made_at body proc p sound made = record {
   end = block_size p.body + closing_size p.close.item;
   code = program_lines (made_text body proc p) (slots_of p) (λ x. refl) p sound.built sound.closes (all_covered (in_block p.body) []) sound.jumps stands table (program_solves p.body p.close (block_size p.body) sound.rises);
   closes = is_end_item p.close.item sound.closes;
+  size = ap length made.code ∙ program_length (slots_of p) (addresses_of p) p;
   numbered = record {
     order = slots_of p;
     distinct = first_distinct (slots_of p) (all_first (in_block p.body) [] none_first);
     slots = made.slots;
     placed = λ x q e. has_slot x q (index_of (slots_of p) x) refl e;
   };
+  used = λ s x e. ⊎_elim (λ q. let bad : None ≡ Some x = q.1 in absurd cc) (λ q. q) (all_used (in_block p.body) [] s x e);
   unit = made.unit;
   guards = made.guards;
 }

@@ -1,5 +1,5 @@
 -- The numbering of a program's variables gives each of them one slot, and each slot one variable.
-use Rattle.std.proofs.Common.{◌≡◌, ◌⊎◌, ℕ, zero, suc, Bool, true, false, List, [], ◌∷◌, ◌++◌, length, Option, Some, None, refl, sym, ap, ◌∙◌, subst, inl, inr, ⊎_elim}
+use Rattle.std.proofs.Common.{◌≡◌, ◌⊎◌, ℕ, zero, suc, Bool, true, false, List, [], ◌∷◌, ◌++◌, length, Option, Some, None, refl, sym, ap, ◌∙◌, subst, inl, inr, ⊎_elim, is_some}
 use Rattle.std.specs.Prelude.{slice_get}
 use Rattle.bas_mean.specs.World.{Variable, same_variable}
 use Rattle.bas_carry.specs.Shown.{Distinct}
@@ -85,3 +85,22 @@ all_covered (x ∷ xs) order =
 
 pub none_first : First []
 none_first s x e = let bad : None ≡ Some x = e in absurd cc
+
+-- what is among the variables is one of those that were put there
+pub all_used : (xs order : List Variable) (s : ℕ) (x : Variable) → slice_get (with_variables order xs) s ≡ Some x → ((k : ℕ) × (slice_get order k ≡ Some x)) ⊎ (is_some (index_of xs x) ≡ true)
+unfolding with_variables
+all_used [] order s x e = inl (s, e)
+all_used (y ∷ ys) order s x e =
+    ⊎_elim
+    (λ p. put (index_of order y) p.0 p.1)
+    (λ p. inr (later (same_variable x y) (index_of ys x) p))
+    (all_used ys (with_variable (index_of order y) order y) s x e)
+  where
+    put : (o : Option ℕ) (k : ℕ) → slice_get (with_variable o order y) k ≡ Some x → ((j : ℕ) × (slice_get order j ≡ Some x)) ⊎ (is_some (index_of (y ∷ ys) x) ≡ true)
+    put (Some i) k f = inl (k, f)
+    put None k f = ⊎_elim (λ p. inl (k, p)) (λ p. inr (ap (λ z. is_some (index_if (same_variable x z) (index_of ys x))) p.1 ∙ ap (λ b. is_some (index_if b (index_of ys x))) (same_itself x))) (get_last order y x k f)
+
+    later : (b : Bool) (o : Option ℕ) → is_some o ≡ true → is_some (index_if b o) ≡ true
+    later true o f = refl
+    later false None f = f
+    later false (Some i) f = refl

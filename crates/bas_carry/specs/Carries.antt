@@ -1,5 +1,5 @@
 -- Which images carry a program, and what that promises.
-use Rattle.std.specs.Prelude.{◌≡◌, ◌≢◌, ℕ, List, [], ◌∷◌, length, Option, Some, None, slice_get}
+use Rattle.std.specs.Prelude.{◌≡◌, ◌≢◌, ℕ, List, [], ◌∷◌, length, Option, Some, None, is_some, true, slice_get}
 use Rattle.bas_ast.specs.Tree.{End, OfPart, NumLine, Stmt, Single, Nest, Sections, NoSections, MoreSections, Block, NoStmts, MoreStmts, Program, SourceUnit}
 use Rattle.bas_mean.specs.World.{Variable}
 use Rattle.bas_mean.specs.Outcome.{Target, LineOf, RunEnd, Lost}
@@ -12,6 +12,7 @@ use Rattle.bas_code.specs.declared.body.Proc.{Proc}
 use Rattle.bas_code.specs.declared.body.Image.{Image}
 use Rattle.bas_code.specs.Machine.{Runs}
 use Rattle.bas_carry.specs.Text.{Text, Static, inside}
+use Rattle.bas_carry.specs.Slots.{in_block, index_of}
 use Rattle.bas_carry.specs.Constructs.{is_last, SectionAt, ClosingAt, SingleAt}
 
 module _ (text : Text) where
@@ -23,10 +24,12 @@ module _ (text : Text) where
     pub rest : Rest middle to
 
   abbrev mutual
+    -- a line alone, or a construct from its first section on
     pub StmtAt : Static → Stmt → ℕ → ℕ → Type 0
     StmtAt st (Single head) from to = SingleAt text st head from to
     StmtAt st (Nest sections close) from to = SectionsAt st sections close from to
 
+    -- the sections of a construct from some of them on
     pub SectionsAt : Static → Sections → (close : NumLine) → ℕ → ℕ → Type 0
     SectionsAt st NoSections close from to = from ≡ to
     SectionsAt st (MoreSections head body rest) close from to =
@@ -51,12 +54,15 @@ pub record Numbered (text : Text) : Type 0 where
   pub slots : text.proc.slots ≡ length order
   pub placed : (x : Variable) (p : Place) → text.places x ≡ Some p → (s : ℕ) × (p ≡ record { space = Own; number = s }) × (slice_get order s ≡ Some x)
 
--- the body carries the program: its lines stand from address 0 on, and no WHEN block stands there
+-- the body carries the program: its lines stand from address 0 to the end of the code, its slots are
+-- the variables that stand in it, and it has no WHEN block
 pub record ProgramAt (text : Text) (p : Program) : Type 0 where
   pub end : ℕ
   pub code : LinesAt text (inside (program_region p) top_static) (program_region p).closing p.body 0 end
   pub closes : p.close.item ≡ OfPart End
+  pub size : length text.proc.code ≡ end
   pub numbered : Numbered text
+  pub used : (s : ℕ) (x : Variable) → slice_get numbered.order s ≡ Some x → is_some (index_of (in_block p.body) x) ≡ true
   pub unit : text.proc.unit ≡ p.name
   pub guards : text.proc.guards ≡ []
 

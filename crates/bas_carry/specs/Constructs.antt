@@ -51,6 +51,7 @@ module _ (text : Text) where
     pub behind : text.addr (EndOf l) ≡ to
     pub again : text.addr (TurnOf l) ≡ from
 
+  -- a section, by its line
   abbrev pub SectionAt : Static → NumLine → (close : NumLine) → Bool → BlockCode → (Rest : ℕ → ℕ → Type 0) → ℕ → ℕ → Type 0
   SectionAt st head close final Code Rest = section_of head.item
     where
@@ -75,6 +76,7 @@ module _ (text : Text) where
     pub here : text.addr (LineOf l) ≡ from
     pub line : LineAt text l from (OneAt text (instr.Run run.End)) from to
 
+  -- the line that closes a block, or its end where none does
   abbrev pub ClosingAt : Static → Closing → ℕ → ℕ → Type 0
   ClosingAt st closing = closing_of closing
     where

@@ -25,6 +25,7 @@ abbrev pub all_cells : List (List Variable) → NamedCells → List Cell
 all_cells [] cells = []
 all_cells (variables ∷ shape) cells = all_cells shape cells ++ cells_of (cells (length shape)) variables
 
+-- the machine's world that shows a world of the meaning
 abbrev pub shown : Invocation → World → MachineWorld
 shown v w = with_cells (record { cells = all_cells v.shape w.cells; frame = v.frame }) w
 
@@ -44,6 +45,7 @@ Lives (variables ∷ shape) r c = StandsIn variables (length shape) (size_of sha
 abbrev pub Distinct : List Variable → Type 0
 Distinct variables = (s t : ℕ) (x : Variable) → slice_get variables s ≡ Some x → slice_get variables t ≡ Some x → s ≡ t
 
+-- no variable has two cells in any invocation
 abbrev pub AllDistinct : List (List Variable) → Type 0
 AllDistinct [] = Unit {0}
 AllDistinct (variables ∷ shape) = Distinct variables × AllDistinct shape

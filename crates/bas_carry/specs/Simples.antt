@@ -34,6 +34,7 @@ module _ (text : Text) where
   ExitAt st None from to = ⊥
   ExitAt st (Some l) from to = JumpAt text (st.drops (EndOf l)) (EndOf l) from to
 
+  -- one row for each statement
   abbrev pub PlainAt : Static → Plain → ℕ → ℕ → Type 0
   PlainAt st (Let targets e) from to = LetAt targets e from to
   PlainAt st (Print list) from to = PrintAt list.first list.rest from to
@@ -41,6 +42,7 @@ module _ (text : Text) where
   PlainAt st ExitDo from to = ExitAt st st.around.do_line from to
   PlainAt st _ from to = NotBuiltAt text from to
 
+  -- a statement alone
   abbrev pub SimpleAt : Static → Simple → ℕ → ℕ → Type 0
   SimpleAt st (Alone plain) from to = PlainAt st plain from to
   SimpleAt st _ from to = NotBuiltAt text from to

@@ -15,11 +15,13 @@ use Rattle.bas_carry.specs.Constructs.{is_last}
 use Rattle.bas_carry.specs.Slots.{slots_of}
 use Rattle.bas_carry.specs.Codes.{cond_size, loopc_size, single_size, closing_size, part_end_size, sections_size, stmt_size, block_size, program_code}
 
+-- an entry of the line table
 abbrev pub entry : (line start end next : ℕ) → LineEntry
 entry l start end next = record { line = l; start = start; end = end; next = next }
 
 -- the line table
 
+-- a line alone: CONTINUE goes on behind it
 abbrev pub single_rows : (l : ℕ) → LineItem → (from : ℕ) → List LineEntry
 single_rows l (OfSimple (Alone plain)) from = entry l from (from + single_size (OfSimple (Alone plain))) (from + single_size (OfSimple (Alone plain))) ∷ []
 single_rows l _ from = []
@@ -30,14 +32,17 @@ closing_rows l (OfPart (Loop loopc)) from behind = entry l from (suc (from + clo
 closing_rows l (OfPart End) from behind = entry l from (from + 2) from ∷ []
 closing_rows l _ from behind = []
 
+-- IF and ELSEIF: CONTINUE goes on behind the construct
 abbrev pub if_section_rows : (l : ℕ) → Cond → (final : Bool) → (size : ℕ) → (block rest : ℕ → List LineEntry) → (from finish : ℕ) → List LineEntry
 if_section_rows l c final size block rest from finish =
     entry l from (suc from + cond_size c) finish ∷ (block (suc from + cond_size c) ++ rest (suc from + (cond_size c + (size + part_end_size final))))
 
+-- DO: CONTINUE goes on behind the loop
 abbrev pub do_section_rows : (l : ℕ) → Option Loopc → (close : NumLine) → (size : ℕ) → (block : ℕ → List LineEntry) → (from finish : ℕ) → List LineEntry
 do_section_rows l loopc close size block from finish =
     entry l from (suc from + loopc_size loopc) finish ∷ (block (suc from + loopc_size loopc) ++ closing_rows close.line close.item (suc from + (loopc_size loopc + size)) finish)
 
+-- a section, by its line
 abbrev pub section_rows : (l : ℕ) → LineItem → (close : NumLine) → (final : Bool) → (size : ℕ) → (block rest : ℕ → List LineEntry) → (from finish : ℕ) → List LineEntry
 section_rows l (OfPart (If c)) close final size block rest from finish = if_section_rows l c final size block rest from finish
 section_rows l (OfPart (Elseif c)) close final size block rest from finish = if_section_rows l c final size block rest from finish
@@ -46,32 +51,39 @@ section_rows l (OfPart (Do loopc)) close final size block rest from finish = do_
 section_rows l _ close final size block rest from finish = []
 
 abbrev mutual
+  -- a statement of a block
   pub stmt_rows : Stmt → (from : ℕ) → List LineEntry
   stmt_rows (Single head) from = single_rows head.line head.item from
   stmt_rows (Nest sections close) from = sections_rows sections close from (from + sections_size sections close)
 
+  -- the sections of a construct from some of them on
   pub sections_rows : Sections → (close : NumLine) → (from finish : ℕ) → List LineEntry
   sections_rows NoSections close from finish = []
   sections_rows (MoreSections head body rest) close from finish =
       section_rows head.line head.item close (is_last rest) (block_size body) (λ from1. block_rows body from1) (λ from1. sections_rows rest close from1 finish) from finish
 
+  -- a block, without the line that closes it
   pub block_rows : Block → (from : ℕ) → List LineEntry
   block_rows NoStmts from = []
   block_rows (MoreStmts s rest) from = stmt_rows s from ++ block_rows rest (from + stmt_size s)
 
+-- a program: END goes on at its own start
 abbrev pub program_rows : Program → List LineEntry
 program_rows p = block_rows p.body 0 ++ closing_rows p.close.line p.close.item (block_size p.body) 0
 
 -- the targets with their addresses
 
+-- targets, each with its address
 abbrev pub Labels : Type 0
 Labels = List (Target × ℕ)
 
+-- a line that closes a block may be the target of a jump
 abbrev pub closing_labels : (l : ℕ) → LineItem → (from : ℕ) → Labels
 closing_labels l (OfPart (Loop loopc)) from = (LineOf l, from) ∷ []
 closing_labels l (OfPart End) from = (LineOf l, from) ∷ []
 closing_labels l _ from = []
 
+-- a section, by its line; a loop has an end and a next turn
 abbrev pub section_labels : (l : ℕ) → LineItem → (close : NumLine) → (final : Bool) → (size : ℕ) → (block rest : ℕ → Labels) → (from finish : ℕ) → Labels
 section_labels l (OfPart (If c)) close final size block rest from finish =
     block (suc from + cond_size c) ++ rest (suc from + (cond_size c + (size + part_end_size final)))
@@ -83,22 +95,27 @@ section_labels l (OfPart (Do loopc)) close final size block rest from finish =
 section_labels l _ close final size block rest from finish = []
 
 abbrev mutual
+  -- what stands inside a statement of a block
   pub stmt_labels : Stmt → (from : ℕ) → Labels
   stmt_labels (Single head) from = []
   stmt_labels (Nest sections close) from = sections_labels sections close from (from + sections_size sections close)
 
+  -- the sections of a construct from some of them on
   pub sections_labels : Sections → (close : NumLine) → (from finish : ℕ) → Labels
   sections_labels NoSections close from finish = []
   sections_labels (MoreSections head body rest) close from finish =
       section_labels head.line head.item close (is_last rest) (block_size body) (λ from1. block_labels body from1) (λ from1. sections_labels rest close from1 finish) from finish
 
+  -- each statement of a block is a target
   pub block_labels : Block → (from : ℕ) → Labels
   block_labels NoStmts from = []
   block_labels (MoreStmts s rest) from = (LineOf (line_of s), from) ∷ (stmt_labels s from ++ block_labels rest (from + stmt_size s))
 
+-- a program: its block, and END
 abbrev pub program_labels : Program → Labels
 program_labels p = block_labels p.body 0 ++ closing_labels p.close.line p.close.item (block_size p.body)
 
+-- whether two targets are the same
 abbrev pub same_target : Target → Target → Bool
 same_target (LineOf l) (LineOf m) = nat_eq l m
 same_target (EndOf l) (EndOf m) = nat_eq l m
@@ -115,23 +132,28 @@ abbrev pub address_in : Labels → Target → ℕ
 address_in [] t = 0
 address_in (label ∷ labels) t = if same_target t label.0 then label.1 else address_in labels t
 
+-- the address of each target of a program
 unfoldable pub addresses_of : Program → Target → ℕ
 addresses_of p = address_in (program_labels p)
 
 -- the numbers of the lines, in the order in which they stand
 abbrev mutual
+  -- a statement of a block, with the lines inside
   pub stmt_numbers : Stmt → List ℕ
   stmt_numbers (Single head) = head.line ∷ []
   stmt_numbers (Nest sections close) = sections_numbers sections ++ close.line ∷ []
 
+  -- the sections of a construct
   pub sections_numbers : Sections → List ℕ
   sections_numbers NoSections = []
   sections_numbers (MoreSections head body rest) = head.line ∷ (block_numbers body ++ sections_numbers rest)
 
+  -- a block
   pub block_numbers : Block → List ℕ
   block_numbers NoStmts = []
   block_numbers (MoreStmts s rest) = stmt_numbers s ++ block_numbers rest
 
+-- a program, with its END line
 abbrev pub program_numbers : Program → List ℕ
 program_numbers p = block_numbers p.body ++ p.close.line ∷ []
 

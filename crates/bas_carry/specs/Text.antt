@@ -32,9 +32,11 @@ abbrev pub near_if : Option Block → Option ℕ → Option ℕ
 near_if None d = d
 near_if (Some b) d = Some 0
 
+-- within a region
 abbrev pub inside : Region → Static → Static
 inside r st = record st { drops = λ t. near_if (landing t r) (st.drops t) }
 
+-- a loop's own targets are reached without leaving a handler
 abbrev pub near_hit : Hit → Option ℕ → Option ℕ
 near_hit Past d = Some 0
 near_hit Round d = Some 0
@@ -81,6 +83,7 @@ module _ (text : Text) where
   JumpFrom (Some zero) t pc = At pc (instr.Jump (Jump (text.addr t)))
   JumpFrom (Some (suc d)) t pc = ⊥
 
+  -- a jump to a target
   pub record JumpAt (d : Option ℕ) (t : Target) (from to : ℕ) : Type 0 where
     pub jump : JumpFrom d t from
     pub end : suc from ≡ to

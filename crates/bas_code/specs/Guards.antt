@@ -33,9 +33,11 @@ chain (suc k) guards (Some g) = g ∷ chain k guards (slice_get guards g.outer)
 abbrev pub guards_at : List Guard → ℕ → List Guard
 guards_at guards pc = chain (length guards) guards (innermost guards pc)
 
+-- the guards around a guard, innermost first
 abbrev pub guards_around : List Guard → Guard → List Guard
 guards_around guards g = chain (length guards) guards (slice_get guards g.outer)
 
+-- leaves a guard out where the test holds
 abbrev pub kept_unless : Bool → Guard → List Guard → List Guard
 kept_unless true g gs = gs
 kept_unless false g gs = g ∷ gs
@@ -45,6 +47,7 @@ abbrev pub away_from : ℕ → List Guard → List Guard
 away_from pc [] = []
 away_from pc (g ∷ gs) = kept_unless (is_guarded g pc) g (away_from pc gs)
 
+-- guards that were entered when that many activations were live
 abbrev pub tagged : ℕ → List Guard → List Tag
 tagged base [] = []
 tagged base (g ∷ gs) = record { guard = g; base = base } ∷ tagged base gs

@@ -26,45 +26,59 @@ use Rattle.bas_code.specs.Machine.{exec, first_started}
 abbrev pub run_for : Image → (steps n : ℕ) → Option RunEnd
 run_for image steps n = exec image steps (first_started image image.programs n [])
 
+-- pushes a whole number
 abbrev pub num : ℕ → Instr
 num n = instr.Push (push.Num (whole n))
 
+-- an own slot
 abbrev pub slot : ℕ → Place
 slot k = record { space = Own; number = k }
 
+-- pushes what a slot's cell holds
 abbrev pub load : ℕ → Instr
 load k = instr.Push (push.Load (slot k))
 
+-- pushes a slot's reference
 abbrev pub refer : ℕ → Instr
 refer k = instr.Push (push.Ref (slot k))
 
+-- stores through one reference
 abbrev pub store_one : Instr
 store_one = instr.Store (store.Store 1)
 
+-- compares two numbers
 abbrev pub compare_by : Relation → Instr
 compare_by r = instr.Compare (compare.CompareNum r)
 
+-- goes to an address
 abbrev pub go : ℕ → Instr
 go a = instr.Jump (jump.Jump a)
 
+-- goes to an address where a truth is false
 abbrev pub go_unless : ℕ → Instr
 go_unless a = instr.Jump (jump.JumpFalse a)
 
+-- goes to an address where a truth is true
 abbrev pub go_if : ℕ → Instr
 go_if a = instr.Jump (jump.JumpTrue a)
 
+-- prints a number at the terminal
 abbrev pub print_number : Instr
 print_number = instr.Print (print.PrintNum TERMINAL)
 
+-- ends the print line of the terminal
 abbrev pub print_end : Instr
 print_end = instr.Print (print.PrintEnd TERMINAL)
 
+-- an entry of the line table
 abbrev pub row : (line start end next : ℕ) → LineEntry
 row l start end next = record { line = l; start = start; end = end; next = next }
 
+-- the body of a program MAIN
 abbrev pub body_of : (slots : ℕ) → List Instr → List LineEntry → Proc
 body_of slots code lines = record { kind = Main; unit = codes "MAIN"; slots = slots; code = code; lines = lines; guards = [] }
 
+-- the image of one program
 abbrev pub image_of : Proc → Image
 image_of proc = record { programs = (codes "MAIN", 0) ∷ []; procs = proc ∷ [] }
 

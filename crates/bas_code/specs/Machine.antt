@@ -34,6 +34,7 @@ use Rattle.bas_code.specs.Guards.{Tag, handlers_at, entry_at}
 
 -- what stands on top of the stack
 
+-- pops a number
 abbrev pub on_number : List Operand → (Number → List Operand → State) → State
 on_number [] go = Over Lost
 on_number (ANumber x ∷ stack) go = go x stack
@@ -41,6 +42,7 @@ on_number (AText text ∷ stack) go = Over Lost
 on_number (ATruth b ∷ stack) go = Over Lost
 on_number (ASpot m ∷ stack) go = Over Lost
 
+-- pops a truth
 abbrev pub on_truth : List Operand → (Bool → List Operand → State) → State
 on_truth [] go = Over Lost
 on_truth (ANumber x ∷ stack) go = Over Lost
@@ -48,6 +50,7 @@ on_truth (AText text ∷ stack) go = Over Lost
 on_truth (ATruth b ∷ stack) go = go b stack
 on_truth (ASpot m ∷ stack) go = Over Lost
 
+-- pops a reference
 abbrev pub on_spot : List Operand → (Spot → List Operand → State) → State
 on_spot [] go = Over Lost
 on_spot (ANumber x ∷ stack) go = Over Lost
@@ -60,6 +63,7 @@ abbrev pub on_spots : ℕ → List Operand → List Spot → (List Spot → List
 on_spots zero stack spots go = go spots stack
 on_spots (suc k) stack spots go = on_spot stack (λ m rest. on_spots k rest (m ∷ spots) go)
 
+-- goes on with what is there; without it the run is lost
 abbrev pub with_some : {A : Type 0} → Option A → (A → State) → State
 with_some None go = Over Lost
 with_some (Some a) go = go a
@@ -68,6 +72,7 @@ with_some (Some a) go = go a
 abbrev pub cell_of : Spot → MachineWorld → Option Cell
 cell_of m w = slice_get w.cells.cells m.cell
 
+-- the world with a number in the cell of a reference, which held c
 abbrev pub with_number_at : Spot → Cell → Number → MachineWorld → MachineWorld
 with_number_at m c x w = with_cells (record { cells = slice_set w.cells.cells m.cell (record c { number = x }); frame = w.cells.frame }) w
 
@@ -86,6 +91,7 @@ left_number External x = if nat_lt x 100000 then x + 100000 else x
 left_number Internal x = x
 left_number Initial x = x
 
+-- an exception that leaves a body
 abbrev pub left_with : Option Proc → Exception → Exception
 left_with None x = x
 left_with (Some p) x = record x { number = left_number p.kind x.number }
@@ -94,14 +100,17 @@ left_with (Some p) x = record x { number = left_number p.kind x.number }
 abbrev pub back_in : Frame → MachineWorld → MachineWorld
 back_in frame w = with_cells (record { cells = take w.cells.frame.first w.cells.cells; frame = frame }) w
 
+-- the guards of a body
 abbrev pub guards_of : Option Proc → List Guard
 guards_of None = []
 guards_of (Some p) = p.guards
 
+-- the line table of a body
 abbrev pub lines_of : Option Proc → List LineEntry
 lines_of None = []
 lines_of (Some p) = p.lines
 
+-- the unit of a body
 abbrev pub unit_of : Option Proc → List ℕ
 unit_of None = []
 unit_of (Some p) = p.unit
@@ -140,6 +149,7 @@ abbrev pub marked : ℕ → (MachineWorld → State) → MachineWorld → State
 marked zero go w = Over (GoesOn (seen w))
 marked (suc left) go w = go (with_left left w)
 
+-- one of two states
 abbrev pub goes : Bool → (there on : State) → State
 goes true there on = there
 goes false there on = on
@@ -153,6 +163,7 @@ operator_of Div = Some Divides
 operator_of Power = Some Powers
 operator_of Negate = None
 
+-- the relation that an instruction asks for
 abbrev pub rel_of : Relation → tree.Rel
 rel_of Equal = tree.Equal
 rel_of NotEqual = tree.NotEqual
@@ -213,6 +224,7 @@ abbrev pub program_started : Option Proc → (body n : ℕ) → (input : List �
 program_started None body n input = Over Lost
 program_started (Some p) body n input = Run body 0 [] [] [] (with_cells (entered p.slots empty_memory) (first_world n input))
 
+-- the first of the programs is started
 abbrev pub first_started : Image → List (List ℕ × ℕ) → (n : ℕ) → (input : List ℕ) → State
 first_started image [] n input = Over Lost
 first_started image (program ∷ programs) n input = program_started (slice_get image.procs program.1) program.1 n input

@@ -61,6 +61,7 @@ spot_in Container n f = slice_get f.container n
 spot_in Module n f = Some (record { cell = n })
 spot_in Use n f = None
 
+-- the cell of a place
 abbrev pub spot_of : Place → Frame → Option Spot
 spot_of p f = spot_in p.space p.number f
 
@@ -85,10 +86,12 @@ abbrev pub live_acts : List Activation → ℕ → ℕ
 live_acts [] n = n
 live_acts (a ∷ acts) n = suc (live_acts acts n)
 
+-- the live runs and their activations, the present run among them
 abbrev pub live_runs : List Waiting → ℕ
 live_runs [] = 1
 live_runs (AtGosub body pc acts ∷ callers) = suc (live_acts acts (live_runs callers))
 live_runs (AtCall body pc stack acts frame ∷ callers) = suc (live_acts acts (live_runs callers))
 
+-- the depth of a state
 abbrev pub depth_of : List Activation → List Waiting → ℕ
 depth_of acts callers = live_acts acts (live_runs callers)

@@ -10,10 +10,12 @@ abbrev pub first_of : Sections → (close : ℕ) → ℕ
 first_of NoSections close = close
 first_of (MoreSections head body rest) close = head.line
 
+-- the number of the line that a statement begins with
 abbrev pub line_of : Stmt → ℕ
 line_of (Single l) = l.line
 line_of (Nest sections close) = first_of sections close.line
 
+-- a where the test holds, else the option
 abbrev pub first_or : {A : Type 0} → Bool → A → Option A → Option A
 first_or true a o = Some a
 first_or false a o = o
@@ -28,6 +30,7 @@ abbrev pub at_closing : ℕ → Closing → Option Block
 at_closing l Bare = None
 at_closing l (ClosedBy opener line) = first_or (nat_eq l line.line) NoStmts None
 
+-- the first option that is there
 abbrev pub or_at : Option Block → Option Block → Option Block
 or_at (Some b) o = Some b
 or_at None o = o
@@ -38,6 +41,7 @@ landing (LineOf l) r = or_at (from_line l r.block) (at_closing l r.closing)
 landing (EndOf l) r = None
 landing (TurnOf l) r = None
 
+-- goes on within the region, or jumps outwards
 abbrev pub jump_within : Option Block → Target → (Block → World → Outcome) → World → Outcome
 jump_within None target go w = Jumps target w
 jump_within (Some rest) target go w = go rest w
@@ -52,15 +56,18 @@ pub data Hit : Type 0 where
   Round : Hit
   Elsewhere : Hit
 
+-- a hit where the test holds
 abbrev pub hit_if : Bool → Hit → Hit
 hit_if true h = h
 hit_if false h = Elsewhere
 
+-- whether a jump goes behind the loop of line l, or to its next turn
 abbrev pub hit : Target → ℕ → Hit
 hit (LineOf m) l = Elsewhere
 hit (EndOf m) l = hit_if (nat_eq m l) Past
 hit (TurnOf m) l = hit_if (nat_eq m l) Round
 
+-- a jump at the end of a loop's block
 abbrev pub loop_jump : Hit → Target → (round : World → Outcome) → World → Outcome
 loop_jump Past target round w = Normal w
 loop_jump Round target round w = round w

@@ -11,6 +11,7 @@ supplied_names =
     ∷ codes "LBOUND" ∷ codes "UBOUND" ∷ codes "LEN" ∷ codes "ORD" ∷ codes "CHR$" ∷ codes "POS" ∷ codes "STR$" ∷ codes "VAL"
     ∷ codes "UCASE$" ∷ codes "LCASE$" ∷ codes "LTRIM$" ∷ codes "RTRIM$" ∷ codes "REPEAT$" ∷ []
 
+-- whether a name is one of a list
 abbrev pub is_among : List ℕ → List (List ℕ) → Bool
 is_among name [] = false
 is_among name (other ∷ others) = bytes_eq name other || is_among name others
@@ -19,37 +20,46 @@ is_among name (other ∷ others) = bytes_eq name other || is_among name others
 unfoldable pub is_numeric_name : List ℕ → Bool
 is_numeric_name name = not (ends_with nat_eq name (36 ∷ [])) && not (is_among name supplied_names)
 
+-- a variable without arguments
 abbrev pub is_built_name : List ℕ → Args → Bool
 is_built_name name NoArgs = is_numeric_name name
 is_built_name name (MoreArgs a rest) = false
 
+-- sums and differences are built, joining of strings is not
 abbrev pub is_built_sign : TermSign → Bool
 is_built_sign Add = true
 is_built_sign Subtract = true
 is_built_sign Join = false
 
 abbrev mutual
+  -- numbers, variables, parentheses and the five operators
   pub is_built_expr : Expr → Bool
   is_built_expr (Sum sign first rest) = is_built_term first && are_built_terms rest
 
+  -- the terms behind the first
   pub are_built_terms : Terms → Bool
   are_built_terms NoTerms = true
   are_built_terms (MoreTerms sign t rest) = is_built_sign sign && (is_built_term t && are_built_terms rest)
 
+  -- a product
   pub is_built_term : Term → Bool
   is_built_term (Product first rest) = is_built_factor first && are_built_factors rest
 
+  -- the factors behind the first
   pub are_built_factors : Factors → Bool
   are_built_factors NoFactors = true
   are_built_factors (MoreFactors sign f rest) = is_built_factor f && are_built_factors rest
 
+  -- a power
   pub is_built_factor : Factor → Bool
   is_built_factor (Power base exponents) = is_built_primary base && are_built_primaries exponents
 
+  -- the exponents
   pub are_built_primaries : Primaries → Bool
   are_built_primaries NoPrimaries = true
   are_built_primaries (MorePrimaries p rest) = is_built_primary p && are_built_primaries rest
 
+  -- a numeral, a variable, or an expression in parentheses
   pub is_built_primary : Primary → Bool
   is_built_primary (Numeric numeral) = true
   is_built_primary (Group e) = is_built_expr e
@@ -57,34 +67,42 @@ abbrev mutual
   is_built_primary _ = false
 
 abbrev mutual
+  -- relations of built expressions, joined by OR, AND and NOT
   pub is_built_cond : Cond → Bool
   is_built_cond (AnyOf first rest) = is_built_conj first && are_built_conjs rest
 
+  -- the conditions behind the first OR
   pub are_built_conjs : Conjs → Bool
   are_built_conjs NoConjs = true
   are_built_conjs (MoreConjs c rest) = is_built_conj c && are_built_conjs rest
 
+  -- conditions joined by AND
   pub is_built_conj : Conj → Bool
   is_built_conj (AllOf first rest) = is_built_test first && are_built_tests rest
 
+  -- the conditions behind the first AND
   pub are_built_tests : Tests → Bool
   are_built_tests NoTests = true
   are_built_tests (MoreTests t rest) = is_built_test t && are_built_tests rest
 
+  -- a negation, a condition in parentheses, or a relation
   pub is_built_test : Test → Bool
   is_built_test (Not t) = is_built_test t
   is_built_test (CondGroup c) = is_built_cond c
   is_built_test (Compare a rel b) = is_built_expr a && is_built_expr b
 
+-- one scalar numeric target
 abbrev pub are_built_targets : List Target → Bool
 are_built_targets (Variable name NoExprs ∷ []) = is_numeric_name name
 are_built_targets _ = false
 
+-- a print list of one expression, or an empty one
 abbrev pub is_built_list : Option Pitem → List (Sep × Option Pitem) → Bool
 is_built_list None [] = true
 is_built_list (Some (Printed e)) [] = is_built_expr e
 is_built_list _ _ = false
 
+-- LET, PRINT, GOTO and EXIT DO
 abbrev pub is_built_plain : Plain → Bool
 is_built_plain (Let targets e) = are_built_targets targets && is_built_expr e
 is_built_plain (Print list) = is_built_list list.first list.rest
@@ -92,11 +110,13 @@ is_built_plain (Goto l) = true
 is_built_plain ExitDo = true
 is_built_plain _ = false
 
+-- WHILE, UNTIL or neither
 abbrev pub is_built_loopc : Option Loopc → Bool
 is_built_loopc None = true
 is_built_loopc (Some (While c)) = is_built_cond c
 is_built_loopc (Some (Until c)) = is_built_cond c
 
+-- END IF
 abbrev pub is_end_if : LineItem → Bool
 is_end_if (OfPart EndIf) = true
 is_end_if _ = false
@@ -120,27 +140,33 @@ is_built_section (OfPart (Do loopc)) close = is_built_loopc loopc && is_built_lo
 is_built_section _ close = false
 
 abbrev mutual
+  -- a line alone, or a construct with its sections
   pub is_built_stmt : Stmt → Bool
   is_built_stmt (Single head) = is_built_single head.item
   is_built_stmt (Nest sections close) = are_built_sections sections close
 
+  -- the sections of a construct, with the line that closes it
   pub are_built_sections : Sections → (close : NumLine) → Bool
   are_built_sections NoSections close = true
   are_built_sections (MoreSections head body rest) close =
       is_built_section head.item close.item && (is_built_block body && are_built_sections rest close)
 
+  -- every statement of a block
   pub is_built_block : Block → Bool
   is_built_block NoStmts = true
   is_built_block (MoreStmts s rest) = is_built_stmt s && is_built_block rest
 
+-- END of a program
 abbrev pub is_end : LineItem → Bool
 is_end (OfPart End) = true
 is_end _ = false
 
+-- no line
 abbrev pub is_none_line : Option NumLine → Bool
 is_none_line None = true
 is_none_line (Some l) = false
 
+-- a program without a PROGRAM line
 abbrev pub is_built_unit : SourceUnit → Bool
 is_built_unit (ProgramUnit p) = is_none_line p.head && (is_built_block p.body && is_end p.close.item)
 is_built_unit _ = false

@@ -13,6 +13,7 @@ use Rattle.bas_mean.specs.Block.{loop_end}
 abbrev pub not_built : World → Outcome
 not_built w = Ends Undefined w
 
+-- one way where a condition holds, another where it does not
 abbrev pub decided : Bool → (held failed : World → Outcome) → World → Outcome
 decided true held failed w = held w
 decided false held failed w = failed w

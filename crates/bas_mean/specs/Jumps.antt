@@ -11,6 +11,7 @@ use Rattle.bas_mean.specs.Meaning.{outermost, program_region}
 abbrev pub near_in : Region → (Target → Bool) → Target → Bool
 near_in r near t = is_some (landing t r) || near t
 
+-- whether a jump goes to the loop
 abbrev pub is_hit : Hit → Bool
 is_hit Past = true
 is_hit Round = true
@@ -20,15 +21,18 @@ is_hit Elsewhere = false
 abbrev pub near_in_loop : ℕ → (Target → Bool) → Target → Bool
 near_in_loop l near t = is_hit (hit t l) || near t
 
+-- EXIT DO stands in a DO whose end may be reached
 abbrev pub may_exit : Option ℕ → (Target → Bool) → Bool
 may_exit None near = false
 may_exit (Some l) near = near (EndOf l)
 
+-- GOTO and EXIT DO are the jumps
 abbrev pub jumps_in_plain : Around → (Target → Bool) → Plain → Bool
 jumps_in_plain around near (Goto l) = near (LineOf l)
 jumps_in_plain around near ExitDo = may_exit around.do_line near
 jumps_in_plain around near _ = true
 
+-- a line alone
 abbrev pub jumps_in_item : Around → (Target → Bool) → LineItem → Bool
 jumps_in_item around near (OfSimple (Alone plain)) = jumps_in_plain around near plain
 jumps_in_item around near _ = true
@@ -44,12 +48,14 @@ abbrev mutual
   jumps_in_stmt around near (Single head) = jumps_in_item around near head.item
   jumps_in_stmt around near (Nest sections close) = jumps_in_sections around near sections close
 
+  -- the sections of a construct
   pub jumps_in_sections : Around → (Target → Bool) → Sections → (close : NumLine) → Bool
   jumps_in_sections around near NoSections close = true
   jumps_in_sections around near (MoreSections head body rest) close =
       jumps_in_section around near head.line head.item close (λ inner reached closing. jumps_in_block inner (near_in (record { block = body; closing = closing }) reached) body)
       && jumps_in_sections around near rest close
 
+  -- every statement of a block
   pub jumps_in_block : Around → (Target → Bool) → Block → Bool
   jumps_in_block around near NoStmts = true
   jumps_in_block around near (MoreStmts s rest) = jumps_in_stmt around near s && jumps_in_block around near rest

@@ -9,9 +9,11 @@ use Rattle.bas_mean.specs.Place.{Region, Bare, Handler, Place, in_handler, is_fu
 abbrev pub report_line : Exception → List ℕ
 report_line x = codes "exception " ++ decimal x.number ++ codes " at line " ++ decimal x.line ++ codes " of " ++ x.unit ++ 10 ∷ []
 
+-- the report with the line of an exception
 abbrev pub line_reported : Exception → Terminal → Terminal
 line_reported x t = record t { report = t.report ++ report_line x }
 
+-- the world with an exception in the report
 abbrev pub reported : {C : Type 0} → Exception → World_of C → World_of C
 reported x w = with_terminal (line_reported x w.terminal) w
 
@@ -33,10 +35,12 @@ settled k again on outward (PassesOn w) = outward w
 settled k again on outward (Returns w) = Returns w
 settled k again on outward (Ends t w) = Ends t w
 
+-- raises x where one more activation would be too deep
 abbrev pub unless_full : Bool → Exception → (World → Outcome) → World → Outcome
 unless_full true x go w = Ends (Raised x) w
 unless_full false x go w = go w
 
+-- a handler's block is closed by no line of its own
 abbrev pub handler_region : Handler → Region
 handler_region h = record { block = h.block; closing = Bare }
 
@@ -54,6 +58,7 @@ abbrev pub recovered : List Handler → Exception → (again raise : World → O
 recovered [] x again raise w = again (reported x w)
 recovered (h ∷ behind) x again raise w = raise w
 
+-- an exception is raised at the line, and any other trouble passes
 abbrev pub troubled : Trouble → (raise : Exception → World → Outcome) → World → Outcome
 troubled (Raised x) raise w = raise x w
 troubled Halted raise w = Ends Halted w

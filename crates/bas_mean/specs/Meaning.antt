@@ -8,6 +8,7 @@ use Rattle.bas_mean.specs.Block.{next_line}
 use Rattle.bas_mean.specs.Construct.{not_built, section, closing_line, single}
 
 abbrev mutual
+  -- a line alone, or a construct from its first section on
   pub stmt : Lower → Place → Around → Stmt → World → Outcome
   stmt low p around (Single head) w = single low p around head (Single head) w
   stmt low p around (Nest sections close) w = sections_from low p around sections close w
@@ -39,9 +40,11 @@ level (suc n) = record {
 abbrev pub own_refs : ℕ → Variable → Ref
 own_refs invocation x = record { invocation = invocation; variable = x }
 
+-- END is the last line of a program's block
 abbrev pub program_region : Program → Region
 program_region p = record { block = p.body; closing = ClosedBy 0 p.close }
 
+-- no loop stands around the top of a body
 abbrev pub outermost : Around
 outermost = record { do_line = None; for_line = None }
 
@@ -49,6 +52,7 @@ outermost = record { do_line = None; for_line = None }
 abbrev pub program_place : Program → Place
 program_place p = record { handlers = []; run = OfBody; depth = 1; unit = p.name; refs = own_refs 1 }
 
+-- a program's run from a world: its invocation begins with fresh cells
 abbrev pub run_program : Program → World → Outcome
 run_program p w = lines (level w.left) (program_place p) outermost (program_region p) p.body (with_cells (with_fresh 1 w.cells) w)
 
@@ -59,6 +63,7 @@ first_program (ProgramUnit p ∷ units) = Some p
 first_program (ProcedureUnit p ∷ units) = first_program units
 first_program (ModuleUnit m ∷ units) = first_program units
 
+-- a list of units without a program has no meaning
 abbrev pub run_first : Option Program → World → Outcome
 run_first None w = not_built w
 run_first (Some p) w = run_program p w

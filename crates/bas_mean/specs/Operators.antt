@@ -14,6 +14,7 @@ pub data Answer (V : Type 0) : Type 0 where
   Found : (v : V) → Answer V
   Raises : (x : ℕ) → Answer V
 
+-- the operators on two numbers
 pub data Operator : Type 0 where
   Adds : Operator
   Subtracts : Operator
@@ -28,6 +29,7 @@ exception_of z ZeroDivide = z
 exception_of z NotWhole = 3010
 exception_of z BadRoot = 3005
 
+-- what arithmetic gives: a number, or the exception of its fault
 abbrev pub answer_of : (zero_divisor : ℕ) → Result Number DecFault → Answer Number
 answer_of z (Ok v) = Found v
 answer_of z (Err fault) = Raises (exception_of z fault)

@@ -9,6 +9,7 @@ pub record Exception : Type 0 where
   pub line : ℕ
   pub unit : List ℕ
 
+-- the value of an expression
 pub data Value : Type 0 where
   OfNumber : (number : Number) → Value
   OfText : (text : List ℕ) → Value
@@ -70,6 +71,7 @@ pub data Outcome : Type 0 where
   Returns : (w : World) → Outcome
   Ends : (t : Trouble) (w : World) → Outcome
 
+-- what follows the words of a simple line
 abbrev pub follow : Next → World → Outcome
 follow Onward w = Normal w
 follow (Jump target) w = Jumps target w
@@ -87,6 +89,7 @@ pub record Takes : Type 0 where
   pub leaves : ℕ → World → Outcome
   pub away : ℕ → Target → World → Outcome
 
+-- a construct that takes no end
 abbrev pub takes_none : Takes
 takes_none = record { normal = Normal; jumps = Jumps; leaves = Leaves; away = Away }
 

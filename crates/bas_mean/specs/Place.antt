@@ -14,6 +14,7 @@ pub data Closing : Type 0 where
   Bare : Closing
   ClosedBy : (opener : ℕ) (line : NumLine) → Closing
 
+-- a block and the line that closes it
 pub record Region : Type 0 where
   pub block : Block
   pub closing : Closing
@@ -52,6 +53,7 @@ pub record Here : Type 0 where
   pub around : Around
   pub refs : Variable → Ref
 
+-- what the words of line l know at a place
 abbrev pub here_at : Place → Around → ℕ → Here
 here_at p around l = record { line = l; unit = p.unit; around = around; refs = p.refs }
 

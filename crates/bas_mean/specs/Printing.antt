@@ -18,8 +18,10 @@ placed text t = record t { output = t.output ++ text; column = t.column + length
 abbrev pub item_placed : List ℕ → Terminal → Terminal
 item_placed text t = placed text (if nat_lt 0 t.column && nat_lt margin (t.column + length text) then line_ended t else t)
 
+-- the world after an item was printed
 abbrev pub with_item : {C : Type 0} → List ℕ → World_of C → World_of C
 with_item text w = with_terminal (item_placed text w.terminal) w
 
+-- the world after the print line was ended
 abbrev pub with_line_ended : {C : Type 0} → World_of C → World_of C
 with_line_ended w = with_terminal (line_ended w.terminal) w

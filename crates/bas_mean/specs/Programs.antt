@@ -4,6 +4,7 @@ use Rattle.bas_dec.specs.Number.{Number}
 use Rattle.bas_ast.specs.Tree.{Add, Divide, Rel, Less, Equal, Greater, Expr, Sum, NoTerms, MoreTerms, Product, NoFactors, MoreFactors, Factor, Power, NoPrimaries, Primary, Numeric, Named, NoArgs, Cond, AnyOf, NoConjs, MoreConjs, AllOf, NoTests, MoreTests, Test, Not, CondGroup, Compare, Variable, NoExprs, Printed, Plain, Let, Print, Goto, ExitDo, Alone, Loopc, While, Part, If, Elseif, Else, EndIf, Do, Loop, End, OfSimple, OfPart, NumLine, Stmt, Single, Nest, NoSections, MoreSections, Block, NoStmts, MoreStmts, SourceUnit, ProgramUnit}
 use Rattle.bas_mean.specs.World.{Terminal}
 
+-- a whole number
 abbrev pub whole : ℕ → Number
 whole n = record { coefficient = pos n; scale = 0 }
 
@@ -15,9 +16,11 @@ num n = Numeric (record { value = whole n; digits = true })
 abbrev pub var : List ℕ → Primary
 var name = Named name NoArgs
 
+-- a primary as a factor
 abbrev pub factor_of : Primary → Factor
 factor_of a = Power a NoPrimaries
 
+-- a primary as an expression
 abbrev pub expr_of : Primary → Expr
 expr_of a = Sum None (Product (factor_of a) NoFactors) NoTerms
 
@@ -29,30 +32,39 @@ plus a b = Sum None (Product (factor_of a) NoFactors) (MoreTerms Add (Product (f
 abbrev pub over : Primary → Primary → Expr
 over a b = Sum None (Product (factor_of a) (MoreFactors Divide (factor_of b) NoFactors)) NoTerms
 
+-- a relation between two primaries
 abbrev pub compared_to : Primary → Rel → Primary → Test
 compared_to a rel b = Compare (expr_of a) rel (expr_of b)
 
+-- a test as a condition
 abbrev pub cond_of : Test → Cond
 cond_of t = AnyOf (AllOf t NoTests) NoConjs
 
+-- t OR u
 abbrev pub either : Test → Test → Cond
 either t u = AnyOf (AllOf t NoTests) (MoreConjs (AllOf u NoTests) NoConjs)
 
+-- t AND u
 abbrev pub both : Test → Test → Cond
 both t u = AnyOf (AllOf t (MoreTests u NoTests)) NoConjs
 
+-- a line alone
 abbrev pub plain_line : ℕ → Plain → Stmt
 plain_line l plain = Single (record { line = l; item = OfSimple (Alone plain) })
 
+-- LET at line l
 abbrev pub let_line : ℕ → List ℕ → Expr → Stmt
 let_line l name e = plain_line l (Let (Variable name NoExprs ∷ []) e)
 
+-- PRINT of one expression at line l
 abbrev pub print_line : ℕ → Expr → Stmt
 print_line l e = plain_line l (Print (record { first = Some (Printed e); rest = [] }))
 
+-- a line of a construct
 abbrev pub part_line : ℕ → Part → NumLine
 part_line l part = record { line = l; item = OfPart part }
 
+-- a block of statements
 abbrev pub block_of : List Stmt → Block
 block_of [] = NoStmts
 block_of (s ∷ ss) = MoreStmts s (block_of ss)
@@ -114,6 +126,7 @@ early_exit = program_of
 unfoldable pub zero_divisor : List SourceUnit
 zero_divisor = program_of (print_line 10 (expr_of (num 1)) ∷ print_line 20 (over (num 1) (var (codes "D"))) ∷ []) 30
 
+-- 1 / A = 1
 abbrev pub inverse_is_one : Test
 inverse_is_one = Compare (over (num 1) (var (codes "A"))) Equal (expr_of (num 1))
 
@@ -140,5 +153,6 @@ abbrev pub lines_taken : List (List ℕ) → List ℕ
 lines_taken [] = []
 lines_taken (text ∷ texts) = text ++ 10 ∷ lines_taken texts
 
+-- a terminal that took these lines, with no input and no report
 abbrev pub terminal_with : List (List ℕ) → Terminal
 terminal_with texts = record { input = []; output = lines_taken texts; report = []; column = 0 }

@@ -34,6 +34,7 @@ abbrev pub exit_words : Option ℕ → World → Evaluated Next
 exit_words None w = undefined w
 exit_words (Some l) w = Gives (Jump (EndOf l)) w
 
+-- one row for each statement
 abbrev pub plain_words : Here → Plain → World → Evaluated Next
 plain_words here (Let targets e) w = let_words here targets e w
 plain_words here (Print list) w = print_words here list.first list.rest w
@@ -41,6 +42,7 @@ plain_words here (Goto l) w = Gives (Jump (LineOf l)) w
 plain_words here ExitDo w = exit_words here.around.do_line w
 plain_words here _ w = undefined w
 
+-- a statement alone
 abbrev pub simple_words : Here → Simple → World → Evaluated Next
 simple_words here (Alone plain) w = plain_words here plain w
 simple_words here _ w = undefined w

@@ -8,6 +8,7 @@ pub data Variable : Type 0 where
   OfName : (name : List ℕ) → Variable
   OfLine : (line which : ℕ) → Variable
 
+-- whether two variables are the same
 abbrev pub same_variable : Variable → Variable → Bool
 same_variable (OfName a) (OfName b) = bytes_eq a b
 same_variable (OfLine l i) (OfLine m j) = nat_eq l m && nat_eq i j
@@ -66,12 +67,15 @@ World = World_of NamedCells
 abbrev pub with_cells : {C D : Type 0} → D → World_of C → World_of D
 with_cells cells w = record { left = w.left; cells = cells; terminal = w.terminal; caught = w.caught }
 
+-- the world with that many lines left
 abbrev pub with_left : {C : Type 0} → ℕ → World_of C → World_of C
 with_left n w = record w { left = n }
 
+-- the world with another terminal
 abbrev pub with_terminal : {C : Type 0} → Terminal → World_of C → World_of C
 with_terminal t w = record w { terminal = t }
 
+-- the world after a handler has started
 abbrev pub with_caught : {C : Type 0} → (number line : ℕ) → World_of C → World_of C
 with_caught number line w = record w { caught = record { number = number; line = line } }
 
@@ -80,6 +84,7 @@ pub record Seen : Type 0 where
   pub left : ℕ
   pub terminal : Terminal
 
+-- what is seen of a world
 abbrev pub seen : {C : Type 0} → World_of C → Seen
 seen w = record { left = w.left; terminal = w.terminal }
 
