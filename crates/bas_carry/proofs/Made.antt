@@ -24,27 +24,27 @@ use Rattle.bas_carry.specs.Slots.{in_cond, in_loopc, in_line, in_stmt, in_sectio
 use Rattle.bas_carry.specs.Codes.{cond_size, loopc_size, single_size, closing_size, part_end_size, sections_size, stmt_size, block_size, unless_code, loopc_code, single_code, closing_code, part_end_code, if_section_code, do_section_code, stmt_code, sections_code, block_code, program_code}
 use Rattle.bas_carry.specs.Tables.{entry, single_rows, closing_rows, if_section_rows, do_section_rows, stmt_rows, sections_rows, block_rows, closing_labels, stmt_labels, sections_labels, block_labels, addresses_of, program_rows, Sound, IsMade, MadeIsCarried}
 use Rattle.bas_carry.proofs.Lengths.{unless_length, loopc_length, closing_length, stmt_length, block_length, program_length}
-use Rattle.bas_carry.proofs.Stands.{both_left, both_right, placed, Covered, covered_front, covered_back, StandsAt, stand_split, stand_all, Agrees_on, unless_stands, loopc_stands, simple_stands}
+use Rattle.bas_carry.proofs.Stands.{both_left, both_right, placed, Covered, covered_front, covered_back, StandsAt, stand_split, stand_all, AgreesOn, unless_stands, loopc_stands, simple_stands}
 use Rattle.bas_carry.proofs.Entries.{Finds, FindsAll, finds_front, finds_back, finds_own, Within, within_both, block_within, closing_within}
 use Rattle.bas_carry.proofs.Targets.{Solves, solves_front, solves_back, program_solves}
 use Rattle.bas_carry.proofs.Numbering.{first_distinct, index_get, all_first, all_covered, all_used, none_first}
 
 module _ (text : Text) (order : List world.Variable) (places : (x : world.Variable) → text.places x ≡ placed (index_of order x)) where
-  abbrev Rows_stand : List LineEntry → Type 0
-  Rows_stand rows = FindsAll text.proc.lines rows
+  abbrev RowsStand : List LineEntry → Type 0
+  RowsStand rows = FindsAll text.proc.lines rows
 
   row_moved : (l start end end' next next' : ℕ) → end ≡ end' → next ≡ next' → Finds text.proc.lines (entry l start end next) → RowAt text l start end' next'
   row_moved l start end end' next next' p q f = subst (λ k. RowAt text l start end' k) q (subst (λ k. RowAt text l start k next) p f)
 
   -- inside a region the region's own lines are near
-  inside_agrees : (st : Static) (near : Target → Bool) (r : Region) → Agrees_on text order places st near → Agrees_on text order places (inside r st) (near_in r near)
+  inside_agrees : (st : Static) (near : Target → Bool) (r : Region) → AgreesOn text order places st near → AgreesOn text order places (inside r st) (near_in r near)
   inside_agrees st near r g t e = by (landing t r) e
     where
       by : (o : Option Block) → (is_some o || near t) ≡ true → near_if o (st.drops t) ≡ Some 0
       by None h = g t h
       by (Some b) h = refl
 
-  looped_agrees : (st : Static) (near : Target → Bool) (l : ℕ) (around : Around) → Agrees_on text order places st near → Agrees_on text order places (looped l around st) (near_in_loop l near)
+  looped_agrees : (st : Static) (near : Target → Bool) (l : ℕ) (around : Around) → AgreesOn text order places st near → AgreesOn text order places (looped l around st) (near_in_loop l near)
   looped_agrees st near l around g t e = by (hit t l) e
     where
       by : (h : Hit) → (is_hit h || near t) ≡ true → near_hit h (st.drops t) ≡ Some 0
@@ -53,7 +53,7 @@ module _ (text : Text) (order : List world.Variable) (places : (x : world.Variab
       by Elsewhere q = g t q
 
   -- a line alone
-  single_stands : (st : Static) (near : Target → Bool) (l : ℕ) (item : LineItem) (from to : ℕ) → Agrees_on text order places st near → is_built_single item ≡ true → Covered order (in_line item) → jumps_in_item st.around near item ≡ true → to ≡ from + single_size item → StandsAt text from (single_code order text.addr st.around l item) → Rows_stand (single_rows l item from) → SingleAt text st (record { line = l; item = item }) from to
+  single_stands : (st : Static) (near : Target → Bool) (l : ℕ) (item : LineItem) (from to : ℕ) → AgreesOn text order places st near → is_built_single item ≡ true → Covered order (in_line item) → jumps_in_item st.around near item ≡ true → to ≡ from + single_size item → StandsAt text from (single_code order text.addr st.around l item) → RowsStand (single_rows l item from) → SingleAt text st (record { line = l; item = item }) from to
   single_stands st near l (OfSimple (Alone plain)) from to g b v j e c f = record {
     mark = c.0;
     row = row_moved l from (from + single_size (OfSimple (Alone plain))) to (from + single_size (OfSimple (Alone plain))) to (sym e) (sym e) f.0;
@@ -65,7 +65,7 @@ module _ (text : Text) (order : List world.Variable) (places : (x : world.Variab
   single_stands st near l _ from to g b v j e c f = let bad : false ≡ true = b in absurd cc
 
   -- LOOP
-  loop_stands : (st : Static) (opener l : ℕ) (item : LineItem) (from to behind : ℕ) → is_built_loop item ≡ true → Covered order (in_line item) → st.drops (EndOf opener) ≡ Some 0 → behind ≡ text.addr (EndOf opener) → to ≡ from + closing_size item → StandsAt text from (closing_code order text.addr opener l item from) → Rows_stand (closing_rows l item from behind) → Solves text.addr (closing_labels l item from) → ClosingAt text st (ClosedBy opener (record { line = l; item = item })) from to
+  loop_stands : (st : Static) (opener l : ℕ) (item : LineItem) (from to behind : ℕ) → is_built_loop item ≡ true → Covered order (in_line item) → st.drops (EndOf opener) ≡ Some 0 → behind ≡ text.addr (EndOf opener) → to ≡ from + closing_size item → StandsAt text from (closing_code order text.addr opener l item from) → RowsStand (closing_rows l item from behind) → Solves text.addr (closing_labels l item from) → ClosingAt text st (ClosedBy opener (record { line = l; item = item })) from to
   loop_stands st opener l (OfPart (Loop loopc)) from to behind b v d q e c f s = record {
     here = s.0;
     mark = c.0;
@@ -76,7 +76,7 @@ module _ (text : Text) (order : List world.Variable) (places : (x : world.Variab
   loop_stands st opener l _ from to behind b v d q e c f s = let bad : false ≡ true = b in absurd cc
 
   -- END
-  end_stands : (st : Static) (opener l : ℕ) (item : LineItem) (from to behind : ℕ) → is_end item ≡ true → to ≡ from + closing_size item → StandsAt text from (closing_code order text.addr opener l item from) → Rows_stand (closing_rows l item from behind) → Solves text.addr (closing_labels l item from) → ClosingAt text st (ClosedBy opener (record { line = l; item = item })) from to
+  end_stands : (st : Static) (opener l : ℕ) (item : LineItem) (from to behind : ℕ) → is_end item ≡ true → to ≡ from + closing_size item → StandsAt text from (closing_code order text.addr opener l item from) → RowsStand (closing_rows l item from behind) → Solves text.addr (closing_labels l item from) → ClosingAt text st (ClosedBy opener (record { line = l; item = item })) from to
   end_stands st opener l (OfPart End) from to behind b e c f s = record {
     here = s.0;
     line = record { mark = c.0; row = row_moved l from (from + 2) to from from (sym e) refl f.0; code = record { at = c.1.0; end = omega (arith, e) } };
@@ -85,11 +85,11 @@ module _ (text : Text) (order : List world.Variable) (places : (x : world.Variab
 
   -- what is known of a block
   abbrev BlockStands : Block → Type 0
-  BlockStands b = (st : Static) (near : Target → Bool) (closing : Closing) (from to : ℕ) → Agrees_on text order places st near → is_built_block b ≡ true → Covered order (in_block b) → jumps_in_block st.around near b ≡ true → StandsAt text from (block_code order text.addr st.around b from) → Rows_stand (block_rows b from) → Solves text.addr (block_labels b from) → ClosingAt text st closing (from + block_size b) to → LinesAt text st closing b from to
+  BlockStands b = (st : Static) (near : Target → Bool) (closing : Closing) (from to : ℕ) → AgreesOn text order places st near → is_built_block b ≡ true → Covered order (in_block b) → jumps_in_block st.around near b ≡ true → StandsAt text from (block_code order text.addr st.around b from) → RowsStand (block_rows b from) → Solves text.addr (block_labels b from) → ClosingAt text st closing (from + block_size b) to → LinesAt text st closing b from to
 
   -- and of the sections of a construct
   abbrev SectionsStand : Sections → NumLine → Type 0
-  SectionsStand sections close = (st : Static) (near : Target → Bool) (from finish : ℕ) → Agrees_on text order places st near → are_built_sections sections close ≡ true → Covered order (in_sections sections) → Covered order (in_line close.item) → jumps_in_sections st.around near sections close ≡ true → finish ≡ from + sections_size sections close → StandsAt text from (sections_code order text.addr st.around sections close from finish) → Rows_stand (sections_rows sections close from finish) → Solves text.addr (sections_labels sections close from finish) → SectionsAt text st sections close from finish
+  SectionsStand sections close = (st : Static) (near : Target → Bool) (from finish : ℕ) → AgreesOn text order places st near → are_built_sections sections close ≡ true → Covered order (in_sections sections) → Covered order (in_line close.item) → jumps_in_sections st.around near sections close ≡ true → finish ≡ from + sections_size sections close → StandsAt text from (sections_code order text.addr st.around sections close from finish) → RowsStand (sections_rows sections close from finish) → Solves text.addr (sections_labels sections close from finish) → SectionsAt text st sections close from finish
 
   part_end_stands : (final : Bool) (last other to : ℕ) → other ≡ last + part_end_size final → StandsAt text last (part_end_code order text.addr final to) → PartEndAt text final last other to
   part_end_stands true last other to e c = omega (arith, e)
@@ -100,7 +100,7 @@ module _ (text : Text) (order : List world.Variable) (places : (x : world.Variab
   part_end_length false to = refl
 
   -- IF and ELSEIF
-  if_stands : (l : ℕ) (c : Cond) (close : NumLine) (body : Block) (rest : Sections) → BlockStands body → SectionsStand rest close → (st : Static) (near : Target → Bool) (from finish : ℕ) → Agrees_on text order places st near → is_built_cond c ≡ true → is_built_block body ≡ true → are_built_sections rest close ≡ true → Covered order (in_cond c) → Covered order (in_block body) → Covered order (in_sections rest) → Covered order (in_line close.item) → jumps_in_block st.around (near_in (record { block = body; closing = Bare }) near) body ≡ true → jumps_in_sections st.around near rest close ≡ true → finish ≡ from + (1 + (cond_size c + (block_size body + (part_end_size (is_last rest) + sections_size rest close)))) → StandsAt text from (if_section_code order text.addr l c (is_last rest) (block_size body) (λ from1. block_code order text.addr st.around body from1) (λ from1. sections_code order text.addr st.around rest close from1 finish) from finish) → Rows_stand (if_section_rows l c (is_last rest) (block_size body) (λ from1. block_rows body from1) (λ from1. sections_rows rest close from1 finish) from finish) → Solves text.addr (block_labels body (suc from + cond_size c) ++ sections_labels rest close (suc from + (cond_size c + (block_size body + part_end_size (is_last rest)))) finish) → IfSectionAt text l c (is_last rest) (λ f t. LinesAt text (inside (record { block = body; closing = Bare }) st) Bare body f t) (λ f t. SectionsAt text st rest close f t) from finish
+  if_stands : (l : ℕ) (c : Cond) (close : NumLine) (body : Block) (rest : Sections) → BlockStands body → SectionsStand rest close → (st : Static) (near : Target → Bool) (from finish : ℕ) → AgreesOn text order places st near → is_built_cond c ≡ true → is_built_block body ≡ true → are_built_sections rest close ≡ true → Covered order (in_cond c) → Covered order (in_block body) → Covered order (in_sections rest) → Covered order (in_line close.item) → jumps_in_block st.around (near_in (record { block = body; closing = Bare }) near) body ≡ true → jumps_in_sections st.around near rest close ≡ true → finish ≡ from + (1 + (cond_size c + (block_size body + (part_end_size (is_last rest) + sections_size rest close)))) → StandsAt text from (if_section_code order text.addr l c (is_last rest) (block_size body) (λ from1. block_code order text.addr st.around body from1) (λ from1. sections_code order text.addr st.around rest close from1 finish) from finish) → RowsStand (if_section_rows l c (is_last rest) (block_size body) (λ from1. block_rows body from1) (λ from1. sections_rows rest close from1 finish) from finish) → Solves text.addr (block_labels body (suc from + cond_size c) ++ sections_labels rest close (suc from + (cond_size c + (block_size body + part_end_size (is_last rest)))) finish) → IfSectionAt text l c (is_last rest) (λ f t. LinesAt text (inside (record { block = body; closing = Bare }) st) Bare body f t) (λ f t. SectionsAt text st rest close f t) from finish
   if_stands l c close body rest hb hr st near from finish g bc bb br vc vb vr vl jb jr e code rows labels =
       let start : ℕ = suc from + cond_size c in
       let other : ℕ = suc from + (cond_size c + (block_size body + part_end_size (is_last rest))) in
@@ -128,7 +128,7 @@ module _ (text : Text) (order : List world.Variable) (places : (x : world.Variab
   end_hit l d = ap (λ b. near_hit (hit_if b Past) d) (eq-eqb l l refl)
 
   -- DO
-  do_stands : (l : ℕ) (loopc : Option Loopc) (close : NumLine) (body : Block) → BlockStands body → (st : Static) (near : Target → Bool) (from finish : ℕ) → Agrees_on text order places st near → is_built_loopc loopc ≡ true → is_built_loop close.item ≡ true → is_built_block body ≡ true → Covered order (in_loopc loopc) → Covered order (in_block body) → Covered order (in_line close.item) → jumps_in_block (in_do l st.around) (near_in (record { block = body; closing = ClosedBy l close }) (near_in_loop l near)) body ≡ true → finish ≡ from + (1 + (loopc_size loopc + (block_size body + (closing_size close.item + 1)))) → StandsAt text from (do_section_code order text.addr l loopc close (block_size body) (λ from1. block_code order text.addr (in_do l st.around) body from1) from finish) → Rows_stand (do_section_rows l loopc close (block_size body) (λ from1. block_rows body from1) from finish) → Solves text.addr ((EndOf l, finish) ∷ ((TurnOf l, from) ∷ (block_labels body (suc from + loopc_size loopc) ++ closing_labels close.line close.item (suc from + (loopc_size loopc + block_size body))))) → DoSectionAt text l loopc (λ f t. LinesAt text (inside (record { block = body; closing = ClosedBy l close }) (looped l (in_do l st.around) st)) (ClosedBy l close) body f t) from finish
+  do_stands : (l : ℕ) (loopc : Option Loopc) (close : NumLine) (body : Block) → BlockStands body → (st : Static) (near : Target → Bool) (from finish : ℕ) → AgreesOn text order places st near → is_built_loopc loopc ≡ true → is_built_loop close.item ≡ true → is_built_block body ≡ true → Covered order (in_loopc loopc) → Covered order (in_block body) → Covered order (in_line close.item) → jumps_in_block (in_do l st.around) (near_in (record { block = body; closing = ClosedBy l close }) (near_in_loop l near)) body ≡ true → finish ≡ from + (1 + (loopc_size loopc + (block_size body + (closing_size close.item + 1)))) → StandsAt text from (do_section_code order text.addr l loopc close (block_size body) (λ from1. block_code order text.addr (in_do l st.around) body from1) from finish) → RowsStand (do_section_rows l loopc close (block_size body) (λ from1. block_rows body from1) from finish) → Solves text.addr ((EndOf l, finish) ∷ ((TurnOf l, from) ∷ (block_labels body (suc from + loopc_size loopc) ++ closing_labels close.line close.item (suc from + (loopc_size loopc + block_size body))))) → DoSectionAt text l loopc (λ f t. LinesAt text (inside (record { block = body; closing = ClosedBy l close }) (looped l (in_do l st.around) st)) (ClosedBy l close) body f t) from finish
   do_stands l loopc close body hb st near from finish g bl bc bb vl vb vc j e code rows labels =
       let start : ℕ = suc from + loopc_size loopc in
       let turn : ℕ = suc from + (loopc_size loopc + block_size body) in
@@ -183,7 +183,7 @@ module _ (text : Text) (order : List world.Variable) (places : (x : world.Variab
   section_stands l _ close body rest hb hr st near from finish g b v vl j e code rows labels = let bad : false ≡ true = b in absurd cc
 
   mutual
-    stmt_stands : (s : Stmt) (st : Static) (near : Target → Bool) (from : ℕ) → Agrees_on text order places st near → is_built_stmt s ≡ true → Covered order (in_stmt s) → jumps_in_stmt st.around near s ≡ true → StandsAt text from (stmt_code order text.addr st.around s from) → Rows_stand (stmt_rows s from) → Solves text.addr (stmt_labels s from) → StmtAt text st s from (from + stmt_size s)
+    stmt_stands : (s : Stmt) (st : Static) (near : Target → Bool) (from : ℕ) → AgreesOn text order places st near → is_built_stmt s ≡ true → Covered order (in_stmt s) → jumps_in_stmt st.around near s ≡ true → StandsAt text from (stmt_code order text.addr st.around s from) → RowsStand (stmt_rows s from) → Solves text.addr (stmt_labels s from) → StmtAt text st s from (from + stmt_size s)
     stmt_stands (Single head) st near from g b v j c f s = single_stands st near head.line head.item from (from + single_size head.item) g b v j refl c f
     stmt_stands (Nest sections close) st near from g b v j c f s =
         sections_stand sections close st near from (from + sections_size sections close) g b (covered_front order (in_sections sections) (in_line close.item) v) (covered_back order (in_sections sections) (in_line close.item) v) j refl c f s
@@ -209,7 +209,7 @@ module _ (text : Text) (order : List world.Variable) (places : (x : world.Variab
               (subst (λ k. ClosingAt text st closing k to) (let z : from + (stmt_size t + block_size rest) ≡ from + stmt_size t + block_size rest = omega arith in z) close);
         }
 
-  pub program_lines : (p : Program) → is_built_block p.body ≡ true → is_end p.close.item ≡ true → Covered order (in_block p.body) → jumps_in_block outermost (near_in (program_region p) (λ t. false)) p.body ≡ true → StandsAt text 0 (program_code order text.addr p) → Rows_stand (program_rows p) → Solves text.addr (block_labels p.body 0 ++ closing_labels p.close.line p.close.item (block_size p.body)) → LinesAt text (inside (program_region p) top_static) (program_region p).closing p.body 0 (block_size p.body + closing_size p.close.item)
+  pub program_lines : (p : Program) → is_built_block p.body ≡ true → is_end p.close.item ≡ true → Covered order (in_block p.body) → jumps_in_block outermost (near_in (program_region p) (λ t. false)) p.body ≡ true → StandsAt text 0 (program_code order text.addr p) → RowsStand (program_rows p) → Solves text.addr (block_labels p.body 0 ++ closing_labels p.close.line p.close.item (block_size p.body)) → LinesAt text (inside (program_region p) top_static) (program_region p).closing p.body 0 (block_size p.body + closing_size p.close.item)
   program_lines p b k v j c f s =
       let q = stand_split text (block_code order text.addr outermost p.body 0) (closing_code order text.addr 0 p.close.line p.close.item (block_size p.body)) 0 (block_size p.body) (block_length order text.addr p.body outermost 0) c in
       let z : 0 + block_size p.body ≡ block_size p.body = omega arith in

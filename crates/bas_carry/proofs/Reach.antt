@@ -30,7 +30,7 @@ abbrev pub run_at : Text → ℕ → Stand → World → State
 run_at text pc x w = Run text.body pc [] x.acts x.callers (shown x.inv w)
 
 -- a variable's place has the cell of what the variable stands for
-pub record Seen_at (x : Variable) (p : instr.Place) (v : Invocation) : Type 0 where
+pub record SeenAt (x : Variable) (p : instr.Place) (v : Invocation) : Type 0 where
   pub spot : Spot
   pub is : spot_of p v.frame ≡ Some spot
   pub lives : Lives v.shape (v.refs x) spot.cell
@@ -40,7 +40,7 @@ pub record Good (image : Image) (text : Text) (x : Stand) : Type 0 where
   pub body : slice_get image.procs text.body ≡ Some text.proc
   pub unit : text.proc.unit ≡ text.unit
   pub list : (pc : ℕ) → handlers_at text.proc.guards pc x.acts ≡ []
-  pub sees : (y : Variable) (p : instr.Place) → text.places y ≡ Some p → Seen_at y p x.inv
+  pub sees : (y : Variable) (p : instr.Place) → text.places y ≡ Some p → SeenAt y p x.inv
   pub distinct : AllDistinct x.inv.shape
 
 module _ (image : Image) (text : Text) where

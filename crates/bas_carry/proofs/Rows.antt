@@ -7,7 +7,7 @@ use Rattle.bas_mean.specs.Outcome.{Gives, Target, LineOf, EndOf, TurnOf, Halt, O
 use Rattle.bas_mean.specs.Place.{Around, Closing, Bare, ClosedBy, Region, here_at, Lower}
 use Rattle.bas_mean.specs.Block.{line_of, first_or, from_line, at_closing, or_at, landing, jump_within, next_line, Hit, Past, Round, Elsewhere, hit_if, hit, loop_jump, loop_end}
 use Rattle.bas_mean.specs.Condition.{holds}
-use Rattle.bas_mean.specs.Construct.{decided, Part_meaning, goes_round, if_section, in_do, do_section, loop_line, end_line, closing_line}
+use Rattle.bas_mean.specs.Construct.{decided, BlockMeaning, goes_round, if_section, in_do, do_section, loop_line, end_line, closing_line}
 use Rattle.bas_code.specs.declared.instr.Instr.TheVariants as instr
 use Rattle.bas_code.specs.declared.instr.JumpInstr.TheVariants as jump
 use Rattle.bas_code.specs.declared.instr.RunInstr.TheVariants as run
@@ -46,7 +46,7 @@ module _ (image : Image) (text : Text) where
     decide to held failed c f g rf rg around l start end next false w h go = reaches_from image text n x st.drops to c (run_at text failed x w) (g w) go (rg w h)
 
     -- IF and ELSEIF
-    pub if_law : (l : ℕ) (c : Cond) (final : Bool) (Code Rest : ℕ → ℕ → Type 0) (whole : Stmt) (block : Part_meaning) (rest : World → Outcome) (from to : ℕ) (at : IfSectionAt text l c final Code Rest from to) → ((w : World) → w.left < n → Does at.last (run_at text at.start x w) (block st.around Bare w)) → ((w : World) → Goes image (run_at text at.last x w) (run_at text to x w)) → ((w : World) → w.left < n → Does to (run_at text at.other x w) (rest w)) → (w : World) → w.left < suc n → Does to (run_at text from x w) (if_section low (place_of text x) st.around l c whole block rest w)
+    pub if_law : (l : ℕ) (c : Cond) (final : Bool) (Code Rest : ℕ → ℕ → Type 0) (whole : Stmt) (block : BlockMeaning) (rest : World → Outcome) (from to : ℕ) (at : IfSectionAt text l c final Code Rest from to) → ((w : World) → w.left < n → Does at.last (run_at text at.start x w) (block st.around Bare w)) → ((w : World) → Goes image (run_at text at.last x w) (run_at text to x w)) → ((w : World) → w.left < n → Does to (run_at text at.other x w) (rest w)) → (w : World) → w.left < suc n → Does to (run_at text from x w) (if_section low (place_of text x) st.around l c whole block rest w)
     if_law l c final Code Rest whole block rest from to at rb past rr w h =
         line_law image text n low x good st.drops l from to (low.stmt (place_of text x) st.around whole) Normal (λ w1 b w2. Goes image (run_at text (suc from) x w1) (leads image text n x good st.around l from at.start to at.start at.other b (shown x.inv w2))) (holds (here_at (place_of text x) st.around l) c) (λ b w1. decided b (block st.around Bare) rest w1) at.mark
         (λ w1 h1. unless_law image text n x good st.around l from at.start to c (suc from) at.start at.other w1 at.test (λ pc a b. at.row pc (omega arith) b) h1)
@@ -112,7 +112,7 @@ module _ (image : Image) (text : Text) where
     loop_law l last to c (Ends t w) normal round behind r rn rr = r
 
     -- DO
-    pub do_law : (l : ℕ) (loopc : Option Loopc) (close : NumLine) (Code : ℕ → ℕ → Type 0) (whole : Stmt) (block : Part_meaning) (from to : ℕ) (at : DoSectionAt text l loopc Code from to) → ((w : World) → w.left < n → Reaches image text n x (loop_drops l) at.last (run_at text at.start x w) (block (in_do l st.around) (ClosedBy l close) w)) → ((w : World) → w.left < n → Does to (run_at text from x w) (low.stmt (place_of text x) st.around whole w)) → (w : World) → w.left < suc n → Does to (run_at text from x w) (do_section low (place_of text x) st.around l loopc close whole block w)
+    pub do_law : (l : ℕ) (loopc : Option Loopc) (close : NumLine) (Code : ℕ → ℕ → Type 0) (whole : Stmt) (block : BlockMeaning) (from to : ℕ) (at : DoSectionAt text l loopc Code from to) → ((w : World) → w.left < n → Reaches image text n x (loop_drops l) at.last (run_at text at.start x w) (block (in_do l st.around) (ClosedBy l close) w)) → ((w : World) → w.left < n → Does to (run_at text from x w) (low.stmt (place_of text x) st.around whole w)) → (w : World) → w.left < suc n → Does to (run_at text from x w) (do_section low (place_of text x) st.around l loopc close whole block w)
     do_law l loopc close Code whole block from to at rb ra w h =
         line_law image text n low x good st.drops l from to again Normal (λ w1 b w2. Goes image (run_at text (suc from) x w1) (leads image text n x good st.around l from at.start to at.start to b (shown x.inv w2))) (goes_round (here_at (place_of text x) st.around l) loopc) (λ b w1. decided b turn Normal w1) at.mark
         (λ w1 h1. loopc_law image text n x good st.around l from at.start to loopc (suc from) at.start to w1 at.test (λ pc a b. at.row pc (omega arith) b) h1)

@@ -316,22 +316,22 @@ module _ (text : Text) (order : List world.Variable) (places : (x : world.Variab
   print_stands (Some (Tab x)) rest from to b v e c = let bad : false ≡ true = b in absurd cc
 
   -- a place of a text sees the targets that a test says
-  abbrev pub Agrees_on : Static → (Target → Bool) → Type 0
-  Agrees_on st near = (t : Target) → near t ≡ true → st.drops t ≡ Some 0
+  abbrev pub AgreesOn : Static → (Target → Bool) → Type 0
+  AgreesOn st near = (t : Target) → near t ≡ true → st.drops t ≡ Some 0
 
   jump_stands : (st : Static) (t : Target) (from to : ℕ) → st.drops t ≡ Some 0 → to ≡ from + 1 → At text from (instr.Jump (jump.Jump (text.addr t))) → JumpAt text (st.drops t) t from to
   jump_stands st t from to d e at = record { jump = subst (λ k. JumpFrom text k t from) (sym d) at; end = omega (arith, e) }
 
-  exit_stands : (st : Static) (near : Target → Bool) (d : Option ℕ) (from to : ℕ) → Agrees_on st near → may_exit d near ≡ true → to ≡ from + 1 → StandsAt text from (exit_code order text.addr d) → ExitAt text st d from to
+  exit_stands : (st : Static) (near : Target → Bool) (d : Option ℕ) (from to : ℕ) → AgreesOn st near → may_exit d near ≡ true → to ≡ from + 1 → StandsAt text from (exit_code order text.addr d) → ExitAt text st d from to
   exit_stands st near None from to g j e c = let bad : false ≡ true = j in absurd cc
   exit_stands st near (Some l) from to g j e c = jump_stands st (EndOf l) from to (g (EndOf l) j) e c.0
 
-  plain_stands : (st : Static) (near : Target → Bool) (p : Plain) (from to : ℕ) → Agrees_on st near → is_built_plain p ≡ true → Covered order (in_plain p) → jumps_in_plain st.around near p ≡ true → to ≡ from + plain_size p → StandsAt text from (plain_code order text.addr st.around p) → PlainAt text st p from to
+  plain_stands : (st : Static) (near : Target → Bool) (p : Plain) (from to : ℕ) → AgreesOn st near → is_built_plain p ≡ true → Covered order (in_plain p) → jumps_in_plain st.around near p ≡ true → to ≡ from + plain_size p → StandsAt text from (plain_code order text.addr st.around p) → PlainAt text st p from to
   plain_stands st near (Let targets x) from to g b v j e c = let_stands targets x from to b v e c
   plain_stands st near (Print list) from to g b v j e c = print_stands list.first list.rest from to b v e c
   plain_stands st near (Goto l) from to g b v j e c = jump_stands st (LineOf l) from to (g (LineOf l) j) e c.0
   plain_stands st near ExitDo from to g b v j e c = exit_stands st near st.around.do_line from to g j e c
   plain_stands st near _ from to g b v j e c = let bad : false ≡ true = b in absurd cc
 
-  pub simple_stands : (st : Static) (near : Target → Bool) (p : Plain) (from to : ℕ) → Agrees_on st near → is_built_plain p ≡ true → Covered order (in_plain p) → jumps_in_plain st.around near p ≡ true → to ≡ from + plain_size p → StandsAt text from (plain_code order text.addr st.around p) → SimpleAt text st (Alone p) from to
+  pub simple_stands : (st : Static) (near : Target → Bool) (p : Plain) (from to : ℕ) → AgreesOn st near → is_built_plain p ≡ true → Covered order (in_plain p) → jumps_in_plain st.around near p ≡ true → to ≡ from + plain_size p → StandsAt text from (plain_code order text.addr st.around p) → SimpleAt text st (Alone p) from to
   simple_stands = plain_stands

@@ -19,7 +19,7 @@ use Rattle.bas_carry.specs.Shown.{Invocation}
 use Rattle.bas_carry.specs.Carries.{top_static, ProgramAt, CarriedAgrees}
 use Rattle.bas_carry.proofs.Steps.{Goes}
 use Rattle.bas_carry.proofs.Cells.{fresh_cells, own_slot}
-use Rattle.bas_carry.proofs.Reach.{Stand, place_of, run_at, Seen_at, Good, never_ready, Reaches, tight}
+use Rattle.bas_carry.proofs.Reach.{Stand, place_of, run_at, SeenAt, Good, never_ready, Reaches, tight}
 use Rattle.bas_carry.proofs.Whole.{lines_sim, level_sim}
 
 -- a region that END closes never ends in order
@@ -98,7 +98,7 @@ module _ (image : Image) (text : Text) (p : Program) (at : ProgramAt text p) (fo
   abbrev top : Stand
   top = record { acts = []; callers = []; run = OfBody; inv = invocation }
 
-  sees : (y : Variable) (q : slot.Place) → text.places y ≡ Some q → Seen_at y q invocation
+  sees : (y : Variable) (q : slot.Place) → text.places y ≡ Some q → SeenAt y q invocation
   sees y q is =
       let s = at.numbered.placed y q is in
       record {

@@ -1,7 +1,7 @@
 -- The states of the machine.
 use Rattle.std.specs.Prelude.{ℕ, zero, suc, Bool, List, [], ◌∷◌, ◌++◌, length, replicate, Option, Some, None, slice_get}
 use Rattle.bas_dec.specs.Number.{Number}
-use Rattle.bas_mean.specs.World.{Cell, fresh_cell, World_of}
+use Rattle.bas_mean.specs.World.{Cell, fresh_cell, WorldOf}
 use Rattle.bas_mean.specs.Outcome.{Exception, RunEnd}
 use Rattle.bas_code.specs.declared.instr.Place.{Place}
 use Rattle.bas_code.specs.declared.instr.Space.{Space}
@@ -26,7 +26,7 @@ pub record Memory : Type 0 where
 
 -- the world of the machine
 abbrev pub MachineWorld : Type 0
-MachineWorld = World_of Memory
+MachineWorld = WorldOf Memory
 
 -- what stands on the operand stack
 pub data Operand : Type 0 where

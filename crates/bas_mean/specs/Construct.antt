@@ -19,8 +19,8 @@ decided true held failed w = held w
 decided false held failed w = failed w
 
 -- the meaning of a section's block, at a place, with what stands around it and the line that closes it
-abbrev pub Part_meaning : Type 0
-Part_meaning = Around → Closing → World → Outcome
+abbrev pub BlockMeaning : Type 0
+BlockMeaning = Around → Closing → World → Outcome
 
 -- a simple line
 abbrev pub simple_line : Lower → Place → Around → (l : ℕ) → Simple → Stmt → World → Outcome
@@ -33,7 +33,7 @@ goes_round here (Some (While c)) w = holds here c w
 goes_round here (Some (Until c)) w = then_with (holds here c w) (λ b w1. Gives (not b) w1)
 
 -- IF and ELSEIF: the block, or the sections behind it
-abbrev pub if_section : Lower → Place → Around → (l : ℕ) → Cond → Stmt → Part_meaning → (rest : World → Outcome) → World → Outcome
+abbrev pub if_section : Lower → Place → Around → (l : ℕ) → Cond → Stmt → BlockMeaning → (rest : World → Outcome) → World → Outcome
 if_section low p around l c whole block rest w =
     line low p l (low.stmt p around whole) Normal (holds (here_at p around l) c) (λ b w1. decided b (block around Bare) rest w1) w
 
@@ -42,13 +42,13 @@ abbrev pub in_do : ℕ → Around → Around
 in_do l around = record around { do_line = Some l }
 
 -- DO: a turn of the block and of the LOOP line, and the line again
-abbrev pub do_section : Lower → Place → Around → (l : ℕ) → Option Loopc → (close : NumLine) → Stmt → Part_meaning → World → Outcome
+abbrev pub do_section : Lower → Place → Around → (l : ℕ) → Option Loopc → (close : NumLine) → Stmt → BlockMeaning → World → Outcome
 do_section low p around l loopc close whole block w =
     line low p l (low.stmt p around whole) Normal (goes_round (here_at p around l) loopc)
     (λ b w1. decided b (λ w2. loop_end l (low.stmt p around whole) (low.stmt p around whole) (block (in_do l around) (ClosedBy l close) w2)) Normal w1) w
 
 -- what the line of a section does, with its block and the sections behind it
-abbrev pub section : Lower → Place → Around → NumLine → (close : NumLine) → Stmt → Part_meaning → (rest : World → Outcome) → World → Outcome
+abbrev pub section : Lower → Place → Around → NumLine → (close : NumLine) → Stmt → BlockMeaning → (rest : World → Outcome) → World → Outcome
 section low p around head close whole block rest = section_of head.item
   where
     section_of : LineItem → World → Outcome

@@ -1,7 +1,7 @@
 -- A counted line: it takes one of the lines left, its words are executed, and what they lead to
 -- follows. Where it raises an exception, the handlers around it are asked.
 use Rattle.std.specs.Prelude.{ℕ, zero, suc, Bool, true, false, List, [], ◌∷◌, ◌++◌, length, codes, decimal}
-use Rattle.bas_mean.specs.World.{World, World_of, Terminal, with_left, with_caught, with_terminal}
+use Rattle.bas_mean.specs.World.{World, WorldOf, Terminal, with_left, with_caught, with_terminal}
 use Rattle.bas_mean.specs.Outcome.{Exception, Trouble, Raised, Halted, Finished, Chained, Beyond, Undefined, Evaluated, Gives, Fails, Asks, Outcome, Normal, Jumps, Leaves, Away, Retries, Continues, PassesOn, Returns, Ends}
 use Rattle.bas_mean.specs.Place.{Region, Bare, Handler, Place, in_handler, is_full, Lower}
 
@@ -14,7 +14,7 @@ abbrev pub line_reported : Exception → Terminal → Terminal
 line_reported x t = record t { report = t.report ++ report_line x }
 
 -- the world with an exception in the report
-abbrev pub reported : {C : Type 0} → Exception → World_of C → World_of C
+abbrev pub reported : {C : Type 0} → Exception → WorldOf C → WorldOf C
 reported x w = with_terminal (line_reported x w.terminal) w
 
 -- takes one line, or ends where none is left

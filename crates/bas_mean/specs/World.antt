@@ -53,7 +53,7 @@ pub record Caught : Type 0 where
   pub line : ℕ
 
 -- lines left, cells, terminal, and what the latest handler caught
-pub record World_of (C : Type 0) : Type 0 where
+pub record WorldOf (C : Type 0) : Type 0 where
   pub left : ℕ
   pub cells : C
   pub terminal : Terminal
@@ -61,22 +61,22 @@ pub record World_of (C : Type 0) : Type 0 where
 
 -- the world of the meaning
 abbrev pub World : Type 0
-World = World_of NamedCells
+World = WorldOf NamedCells
 
 -- the same world with other cells, also of another kind
-abbrev pub with_cells : {C D : Type 0} → D → World_of C → World_of D
+abbrev pub with_cells : {C D : Type 0} → D → WorldOf C → WorldOf D
 with_cells cells w = record { left = w.left; cells = cells; terminal = w.terminal; caught = w.caught }
 
 -- the world with that many lines left
-abbrev pub with_left : {C : Type 0} → ℕ → World_of C → World_of C
+abbrev pub with_left : {C : Type 0} → ℕ → WorldOf C → WorldOf C
 with_left n w = record w { left = n }
 
 -- the world with another terminal
-abbrev pub with_terminal : {C : Type 0} → Terminal → World_of C → World_of C
+abbrev pub with_terminal : {C : Type 0} → Terminal → WorldOf C → WorldOf C
 with_terminal t w = record w { terminal = t }
 
 -- the world after a handler has started
-abbrev pub with_caught : {C : Type 0} → (number line : ℕ) → World_of C → World_of C
+abbrev pub with_caught : {C : Type 0} → (number line : ℕ) → WorldOf C → WorldOf C
 with_caught number line w = record w { caught = record { number = number; line = line } }
 
 -- what is seen of a world from outside
@@ -85,7 +85,7 @@ pub record Seen : Type 0 where
   pub terminal : Terminal
 
 -- what is seen of a world
-abbrev pub seen : {C : Type 0} → World_of C → Seen
+abbrev pub seen : {C : Type 0} → WorldOf C → Seen
 seen w = record { left = w.left; terminal = w.terminal }
 
 -- the world in which a run for n lines begins
