@@ -6,9 +6,11 @@ use super::*;
 use bas_base::FileName;
 use bas_world::{MemSink, MemSource, MemStore, SureSink, SureSource, SureStore};
 use std::alloc::{AllocError, Global};
+use std::process::Abort;
 use std::test::Fail;
 
 // A program, and what `go` answers to it.
+#[derive(Clone, Copy)]
 struct Case {
     text: &'static [u8],
     status: Status,
@@ -137,8 +139,7 @@ fn sure_answer(
     basic_words(alloc, words, store, &mut input, out, report)
 }
 
-fn check_case(rt: &HostRuntime, case: &Case) -> Result<(), Fail> {
-    let alloc = rt.alloc();
+fn check_case(rt: &impl Abort, alloc: Global, case: &Case) -> Result<(), Fail> {
     let words = words(alloc, &["go", "a.bas"])?;
     let mut store = SureStore::new(alloc);
     store.put(file_name()?, case.text)?;
@@ -155,7 +156,7 @@ fn check_case(rt: &HostRuntime, case: &Case) -> Result<(), Fail> {
 #[test]
 fn programs(rt: HostRuntime) -> Result<(), Fail> {
     for case in &PROGRAMS {
-        check_case(&rt, case)?;
+        check_case(&rt, rt.alloc(), case)?;
     }
     Ok(())
 }
@@ -169,7 +170,7 @@ fn refused_files(rt: HostRuntime) -> Result<(), Fail> {
             output: b"",
             report: b"a.bas: refused\n",
         };
-        check_case(&rt, &case)?;
+        check_case(&rt, rt.alloc(), &case)?;
     }
     Ok(())
 }
