@@ -1,0 +1,5 @@
+pub mod ElementLaws
+pub mod ReaderLaws
+pub mod SequenceLaws
+pub mod RepetitionLaws
+mod WorkedLaws

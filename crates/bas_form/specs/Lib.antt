@@ -1,0 +1,4 @@
+pub mod Form
+pub mod Reader
+pub mod Element
+pub mod Laws
