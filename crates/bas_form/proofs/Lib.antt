@@ -1,4 +1,5 @@
 pub mod ElementLaws
+pub mod EndLaws
 pub mod ReaderLaws
 pub mod SequenceLaws
 pub mod RepetitionLaws

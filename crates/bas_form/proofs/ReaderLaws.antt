@@ -1,7 +1,7 @@
 -- What callers learn from a reader that takes the longest form, and the laws of the forms that have one part.
 use Rattle.std.proofs.Common.{◌≡◌, ℕ, ◌+◌, ◌<◌, ◌≤◌, ◌⊎◌, inl, inr, Option, Some, None, IsSome, refl, sym, ap, ◌∙◌, subst, arith}
-use Rattle.bas_form.specs.Form.{Form, Terminal, Optional, ◌or◌, Dispatched, Built}
-use Rattle.bas_form.specs.Reader.{Reader, ◌>>=◌, terminal, optional, optional_at, either, dispatched, built, ReadsLongest, Begins, AlwaysReads}
+use Rattle.bas_form.specs.Form.{Form, Terminal, Optional, ◌or◌, Dispatched, NotAhead, Built}
+use Rattle.bas_form.specs.Reader.{Reader, ◌>>=◌, terminal, optional, optional_at, either, dispatched, not_ahead_at, not_ahead, built, ReadsLongest, Begins, AlwaysReads}
 
 pub same_some : {A : Type 0} {x y : A} → Some x ≡ Some y → x ≡ y
 same_some e = cc
@@ -202,6 +202,29 @@ module _ {K A : Type 0} {len least : ℕ} (key : ℕ → Option K) {F : K → Fo
       | inl d ↦ inl (dispatched_of at h.0 (a, next) h.1 d)
       | inr d ↦ inr ((h.0, d.0), d.1, dispatched_of at h.0 d.1 h.1 d.2, d.3)
     ];
+  }
+
+-- ---- nothing, where an element does not stand
+
+module _ {A : Type 0} (len : ℕ) (element : ℕ → Option A) where
+  not_ahead_by : (at : ℕ) (o : Option A) (u : Unit {0}) (next : ℕ) → element at ≡ o → not_ahead_at at o ≡ Some (u, next) → NotAhead element at u next
+  not_ahead_by at None u next eo e = (eo, sym (ap (λ t. t.1) (same_some e)))
+  not_ahead_by at (Some a) u next eo e = absurd (cc)
+
+  not_ahead_sound : (at : ℕ) (u : Unit {0}) (next : ℕ) → not_ahead element at ≡ Some (u, next) → NotAhead element at u next
+  unfolding not_ahead
+  not_ahead_sound at u next e = not_ahead_by at (element at) u next refl e
+
+  not_ahead_of : (at : ℕ) → element at ≡ None → not_ahead element at ≡ Some (tt, at)
+  unfolding not_ahead
+  not_ahead_of at e = rw e refl
+
+  pub not_ahead_longest : ReadsLongest len 0 (NotAhead element) (λ _. ⊥) (not_ahead element)
+  not_ahead_longest = record {
+    sound = not_ahead_sound;
+    grows = λ at u next h. let n = h.1 in omega arith;
+    within = λ at u next h later. let n = h.1 in absurd (omega arith);
+    longest = λ at u next h. inl (not_ahead_of at h.0 ∙ ap (λ n. Some (tt, n)) (sym h.1));
   }
 
 -- ---- a tree made of the parts

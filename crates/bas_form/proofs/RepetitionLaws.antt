@@ -150,6 +150,22 @@ module _ {A : Type 0} {len least : ℕ} {F : Form A} {GoesOn : ℕ → Type 0} {
   pub all_end : (at : ℕ) → f at ≡ None → all_from f len at ≡ ([], at)
   all_end at e = turn_end (len - at) at e
 
+  nothing_past : (at : ℕ) → len ≤ at → (o : Option (A × ℕ)) → f at ≡ o → f at ≡ None
+  nothing_past at l None e = e
+  nothing_past at l (Some found) e = let p = progress at found e in absurd (omega arith)
+
+  stops_on : (turns at : ℕ) (o : Option (A × ℕ)) → f at ≡ o → ((m : ℕ) → at < m → f (repeated_by f turns m).1 ≡ None) → f (repeated_by f (suc turns) at).1 ≡ None
+  stops_on turns at None e ih = rw (turn_end (suc turns) at e) e
+  stops_on turns at (Some found) e ih = let p = progress at found e in rw (turn_on turns at found e) (ih found.1 p.0)
+
+  stops_by : (turns at : ℕ) → len ≤ at + turns → f (repeated_by f turns at).1 ≡ None
+  stops_by zero at enough = rw (no_turns at) (nothing_past at (omega arith) (f at) refl)
+  stops_by (suc turns) at enough = stops_on turns at (f at) refl (λ m l. stops_by turns m (omega arith))
+
+  -- a repetition ends where the reader reads nothing more
+  pub all_stops : (at : ℕ) → f (all_from f len at).1 ≡ None
+  all_stops at = stops_by (len - at) at (omega arith)
+
   pub as_far_begins : (at : ℕ) → IsAsFar f len at [] at
   as_far_begins at = refl
 

@@ -2,8 +2,8 @@
 use Rattle.std.proofs.Common.{ℕ, ◌⊎◌, inl, inr, Option, IsSome, refl, arith}
 use Rattle.bas_form.specs.Reader.{terminal, both, repeated, repeated_by, built, Begins}
 use Rattle.bas_form.specs.Element.{element_at}
-use Rattle.bas_form.specs.Laws.{Never, TerminalLaw, ThenLaw, OptionalLaw, RepeatedLaw, OrLaw, DispatchedLaw, BuiltLaw, PerhapsLaw, ChainLaw, BetweenLaw, WorkedGrammar}
-use Rattle.bas_form.proofs.ReaderLaws.{terminal_longest, optional_longest, either_longest, dispatched_longest, built_longest, weaker}
+use Rattle.bas_form.specs.Laws.{Never, TerminalLaw, ThenLaw, OptionalLaw, RepeatedLaw, OrLaw, DispatchedLaw, NotAheadLaw, BuiltLaw, PerhapsLaw, ChainLaw, BetweenLaw, WorkedGrammar}
+use Rattle.bas_form.proofs.ReaderLaws.{terminal_longest, optional_longest, either_longest, dispatched_longest, not_ahead_longest, built_longest, weaker}
 use Rattle.bas_form.proofs.SequenceLaws.{then_longest, perhaps_longest, between_longest}
 use Rattle.bas_form.proofs.RepetitionLaws.{repeated_longest, chain_longest}
 
@@ -32,6 +32,9 @@ or_law len p q ip iq apart = weaker (either_longest (terminal_longest len p ip) 
 
 pub dispatched_law : DispatchedLaw
 dispatched_law len key p ip = weaker (dispatched_longest key (λ k. terminal_longest len (p k) (ip k))) Never 1 (λ n h. h.1) (omega arith)
+
+pub not_ahead_law : NotAheadLaw
+not_ahead_law len p = not_ahead_longest len p
 
 pub built_law : BuiltLaw
 built_law len p make ip = built_longest make (terminal_longest len p ip)

@@ -36,6 +36,10 @@ abbrev pub ◌or◌ : {A : Type 0} → Form A → Form A → Form A
 abbrev pub Dispatched : {K A : Type 0} → (ℕ → Option K) → (K → Form A) → Form A
 Dispatched {K = K} key F at a next = (k : K) × (key at ≡ Some k) × F k at a next
 
+-- nothing, where the element does not stand
+abbrev pub NotAhead : {A : Type 0} → (ℕ → Option A) → Form (Unit {0})
+NotAhead element at u next = (element at ≡ None) × (next ≡ at)
+
 -- a form whose tree is made of the parts
 abbrev pub Built : {A B : Type 0} → (A → B) → Form A → Form B
 Built {A = A} make F at b next = (a : A) × (b ≡ make a) × F at a next

@@ -1,7 +1,7 @@
 -- The law of each form, here of forms whose parts are single elements: its reader takes the longest.
 use Rattle.std.specs.Prelude.{◌≡◌, ℕ, List, [], ◌∷◌, cond, Option, Some, None, IsSome, codes, nat_le, ◌&&◌, ◌==◌}
-use Rattle.bas_form.specs.Form.{Terminal, ◌then◌, Optional, Repeated, ◌or◌, Dispatched, Built, ◌perhaps◌, Chain, Between}
-use Rattle.bas_form.specs.Reader.{terminal, ◌followed_by◌, optional, repeated, either, dispatched, built, ◌maybe◌, chain, between, ReadsLongest, Begins}
+use Rattle.bas_form.specs.Form.{Terminal, ◌then◌, Optional, Repeated, ◌or◌, Dispatched, NotAhead, Built, ◌perhaps◌, Chain, Between}
+use Rattle.bas_form.specs.Reader.{terminal, ◌followed_by◌, optional, repeated, either, dispatched, not_ahead, built, ◌maybe◌, chain, between, ReadsLongest, Begins}
 use Rattle.bas_form.specs.Element.{element_at, StandsInside}
 
 -- a form behind which nothing goes on
@@ -28,6 +28,9 @@ OrLaw = (len : ℕ) (p q : ℕ → Option ℕ) → StandsInside len p → Stands
 abbrev pub DispatchedLaw : Type 0
 DispatchedLaw = (len : ℕ) (key : ℕ → Option ℕ) (p : ℕ → ℕ → Option ℕ) → ((k : ℕ) → StandsInside len (p k)) →
     ReadsLongest len 1 (Dispatched key (λ k. Terminal (p k))) Never (dispatched key (λ k. terminal (p k)))
+
+abbrev pub NotAheadLaw : Type 0
+NotAheadLaw = (len : ℕ) (p : ℕ → Option ℕ) → ReadsLongest len 0 (NotAhead p) Never (not_ahead p)
 
 abbrev pub BuiltLaw : Type 0
 BuiltLaw = (len : ℕ) (p : ℕ → Option ℕ) (make : ℕ → ℕ) → StandsInside len p → ReadsLongest len 1 (Built make (Terminal p)) Never (built make (terminal p))

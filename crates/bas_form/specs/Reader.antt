@@ -61,6 +61,13 @@ dispatched key f at = do
   k ← key at
   f k at
 
+abbrev pub not_ahead_at : {A : Type 0} → ℕ → Option A → Option (Unit {0} × ℕ)
+not_ahead_at at None = Some (tt, at)
+not_ahead_at at (Some a) = None
+
+unfoldable pub not_ahead : {A : Type 0} → (ℕ → Option A) → Reader (Unit {0})
+not_ahead element at = not_ahead_at at (element at)
+
 unfoldable pub built : {A B : Type 0} → (A → B) → Reader A → Reader B
 built make f at = do
   a ← f at
@@ -89,6 +96,11 @@ pub record ReadsLongest {A : Type 0} (len least : ℕ) (F : Form A) (GoesOn : �
   pub within : (at : ℕ) (a : A) (next : ℕ) → F at a next → at < next → next ≤ len
   pub longest : (at : ℕ) (a : A) (next : ℕ) → F at a next →
       (f at ≡ Some (a, next)) ⊎ (GoesOn next × (found : A × ℕ) × (f at ≡ Some found) × (next < found.1))
+
+-- where what was read ends
+abbrev pub end_of : {A : Type 0} → Option (A × ℕ) → Option ℕ
+end_of None = None
+end_of (Some found) = Some found.1
 
 -- the places at which a reader reads something
 abbrev pub Begins : {A : Type 0} → Reader A → ℕ → Type 0

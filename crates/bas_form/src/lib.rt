@@ -1,11 +1,11 @@
 //! The forms of a grammar and their readers, for texts of any elements: bytes, tokens or lines.
-//!
-//! A form is a relation between a place, a tree and the place after it. Beside each of the seven
-//! forms (an element, one behind another, a form or nothing, any number of times, one of two, the one
-//! that an element chooses, a tree of the parts) stands a reader, which always takes the longest form.
+//! A form is a relation between a place, a tree and the place after it. The eight
+//! forms are an element, one form behind another, a form or nothing, any number of times, one of two,
+//! the one that an element chooses, nothing ahead, and a tree of the parts. Beside each stands a reader,
+//! and each law says that it takes the longest form, of whatever forms the parts are.
 #![tactic(auto)]
 
-ghost use Rattle.bas_form.specs.Laws.{TerminalLaw, ThenLaw, OptionalLaw, RepeatedLaw, OrLaw, DispatchedLaw, BuiltLaw, PerhapsLaw, ChainLaw, BetweenLaw, WorkedGrammar};
+ghost use Rattle.bas_form.specs.Laws.{TerminalLaw, ThenLaw, OptionalLaw, RepeatedLaw, OrLaw, DispatchedLaw, BuiltLaw, NotAheadLaw, PerhapsLaw, ChainLaw, BetweenLaw, WorkedGrammar};
 
 /// One element. The reader takes the longest, and no tree but the one that it gives ends there.
 pub fn terminal_law()
@@ -35,6 +35,11 @@ pub fn or_law()
 /// The form that an element chooses. The reader takes the longest, and no tree but the one that it gives ends there.
 pub fn dispatched_law()
     ensures { DispatchedLaw }
+{}
+
+/// Nothing, where an element does not stand. The reader takes the longest.
+pub fn not_ahead_law()
+    ensures { NotAheadLaw }
 {}
 
 /// A tree made of the parts. The reader takes the longest, and no tree but the one that it gives ends there.
