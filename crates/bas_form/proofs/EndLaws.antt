@@ -1,7 +1,7 @@
 -- Where what is read ends follows from where its parts end.
 use Rattle.std.proofs.Common.{◌≡◌, ℕ, ◌+◌, List, [], ◌∷◌, Option, Some, None, refl, sym, ap, ◌∙◌}
 use Rattle.std.specs.Prelude.{unwrap_or}
-use Rattle.bas_form.specs.Reader.{Reader, ◌>>=◌, terminal, both, ◌followed_by◌, optional, optional_at, first_of, either, not_ahead, not_ahead_at, built, repeated, all_from, end_of}
+use Rattle.bas_form.specs.Reader.{Reader, ◌>>=◌, terminal, both, ◌followed_by◌, optional, optional_at, first_of, either, not_ahead, not_ahead_at, built, repeated, all_from, end_of, ◌maybe◌}
 
 module _ {A : Type 0} (element : ℕ → Option A) (at : ℕ) where
   terminal_by : (o : Option A) → end_of (let read : Option (A × ℕ) = o >>= (λ a. Some (a, at + 1)) in read) ≡ (o >>= λ a. Some (at + 1))
@@ -37,6 +37,31 @@ module _ {A : Type 0} (f : Reader A) (at : ℕ) where
   pub end_repeated : (len : ℕ) → end_of (repeated f len at) ≡ Some (all_from f len at).1
   unfolding repeated
   end_repeated len = refl
+
+-- steps that are the same behind the first are the same
+pub same_steps : {A B : Type 0} (o : Option A) (f g : A → Option B) → ((a : A) → f a ≡ g a) → (o >>= f) ≡ (o >>= g)
+same_steps None f g same = refl
+same_steps (Some a) f g same = same a
+
+module _ {A B : Type 0} (f : Reader A) (g : Reader B) (at : ℕ) where
+  pub end_maybe : end_of ((f maybe g) at) ≡ (end_of (f at) >>= λ middle. Some (unwrap_or (end_of (g middle)) middle))
+  end_maybe = end_both f (optional g) at ∙ same_steps (end_of (f at)) (λ middle. end_of (optional g middle)) (λ middle. Some (unwrap_or (end_of (g middle)) middle)) (λ middle. end_optional g middle)
+
+  pub end_all : (len : ℕ) → end_of ((f followed_by repeated g len) at) ≡ (end_of (f at) >>= λ middle. Some (all_from g len middle).1)
+  end_all len = end_both f (repeated g len) at ∙ same_steps (end_of (f at)) (λ middle. end_of (repeated g len middle)) (λ middle. Some (all_from g len middle).1) (λ middle. end_repeated g middle len)
+
+module _ {A : Type 0} (element : ℕ → Option A) (at : ℕ) where
+  abbrev pub unless_some : Option A → Option ℕ
+  unless_some None = Some at
+  unless_some (Some a) = None
+
+  ahead_by : (o : Option A) → end_of (not_ahead_at at o) ≡ unless_some o
+  ahead_by None = refl
+  ahead_by (Some a) = refl
+
+  pub end_not_ahead : end_of (not_ahead element at) ≡ unless_some (element at)
+  unfolding not_ahead
+  end_not_ahead = ahead_by (element at)
 
 module _ {A : Type 0} (f g : Reader A) (at : ℕ) where
   either_by : (o : Option (A × ℕ)) → end_of (first_of o (g at)) ≡ first_of (end_of o) (end_of (g at))

@@ -47,6 +47,10 @@ module _ {A : Type 0} {len least : ℕ} {F : Form A} {GoesOn : ℕ → Type 0} {
   pub ends : (at : ℕ) (a : A) (next : ℕ) → F at a next → (GoesOn next → ⊥) → f at ≡ Some (a, next)
   ends at a next h stops = elim (is.longest at a next h) as (λ _. f at ≡ Some (a, next)) [ inl d ↦ d | inr d ↦ absurd (stops d.0) ]
 
+  -- where a form stands something is read
+  pub begins : (at : ℕ) (a : A) (next : ℕ) → F at a next → Begins f at
+  begins at a next h = elim (is.longest at a next h) as (λ _. Begins f at) [ inl d ↦ some_is d | inr d ↦ some_is d.2 ]
+
   -- what is read where something is
   pub begun : (at : ℕ) → Begins f at → (a : A) × (next : ℕ) × F at a next
   begun at h = let r = value_of (f at) h in (r.0.0, r.0.1, is.sound at r.0.0 r.0.1 r.1)

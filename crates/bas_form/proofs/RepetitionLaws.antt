@@ -23,6 +23,10 @@ module _ {A : Type 0} {len least : ℕ} {F : Form A} {GoesOn : ℕ → Type 0} {
   by_sound zero at = refl
   by_sound (suc turns) at = on_sound (repeated_by f turns) at (f at) refl (by_sound turns)
 
+  -- what a repetition reads stands there
+  pub all_sound : (at : ℕ) → Repeated F at (all_from f len at).0 (all_from f len at).1
+  all_sound at = by_sound (len - at) at
+
   repeated_grows : (at : ℕ) (items : List A) (next : ℕ) → Repeated F at items next → at + 0 ≤ next
   repeated_grows at [] next h = omega arith
   repeated_grows at (a ∷ more) next h =

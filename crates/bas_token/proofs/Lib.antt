@@ -1,0 +1,5 @@
+pub mod ByteLaws
+pub mod ShapeLaws
+pub mod RemarkLaws
+pub mod EndsOfShapes
+pub mod TokenLaws

@@ -1,0 +1,5 @@
+pub mod Bytes
+pub mod Lexical
+pub mod Tokens
+pub mod Readers
+pub mod Reading
