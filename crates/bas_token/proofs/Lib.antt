@@ -3,3 +3,4 @@ pub mod ShapeLaws
 pub mod RemarkLaws
 pub mod EndsOfShapes
 pub mod TokenLaws
+pub mod CutLaws

@@ -33,7 +33,7 @@ module _ (line : List ℕ) where
   space_by at k low true e here behind = here (eqb-true k at e)
   space_by at k low false e here behind = behind (let later : at < k = grind (arith, nat_tests) in omega arith)
 
-  spaces_hold : (spaces : List ℕ) (at next : ℕ) → Repeated (Byte line Space) at spaces next → (k : ℕ) → at ≤ k → k < next → is_of_class Space (get_or line k 0) ≡ true
+  pub spaces_hold : (spaces : List ℕ) (at next : ℕ) → Repeated (Byte line Space) at spaces next → (k : ℕ) → at ≤ k → k < next → is_of_class Space (get_or line k 0) ≡ true
   spaces_hold [] at next h k low high = absurd (omega arith)
   spaces_hold (b ∷ more) at next h k low high =
       let step = h.1.1 in

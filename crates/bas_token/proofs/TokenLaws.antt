@@ -20,11 +20,11 @@ use Rattle.bas_token.proofs.RemarkLaws.{remark_longest, at_rem, slice_get_none}
 use Rattle.bas_token.proofs.EndsOfShapes.{word_ends, numeral_ends, quoted_ends, sign_ends, remark_ends}
 
 -- the place is the last at which the form ends
-record EndsLongest (len : ℕ) (S : ℕ → ℕ → Type 0) (ends : ℕ → Option ℕ) : Type 0 where
-  sound : (at to : ℕ) → ends at ≡ Some to → S at to
-  latest : (at to next : ℕ) → ends at ≡ Some to → S at next → next ≤ to
-  nowhere : (at next : ℕ) → ends at ≡ None → S at next → ⊥
-  grows : (at next : ℕ) → S at next → (at < next) × (next ≤ len)
+pub record EndsLongest (len : ℕ) (S : ℕ → ℕ → Type 0) (ends : ℕ → Option ℕ) : Type 0 where
+  pub sound : (at to : ℕ) → ends at ≡ Some to → S at to
+  pub latest : (at to next : ℕ) → ends at ≡ Some to → S at next → next ≤ to
+  pub nowhere : (at next : ℕ) → ends at ≡ None → S at next → ⊥
+  pub grows : (at next : ℕ) → S at next → (at < next) × (next ≤ len)
 
 ends_longest : {A : Type 0} {len : ℕ} {F : Form A} {GoesOn : ℕ → Type 0} {f : Reader A} (ends : ℕ → Option ℕ) → ReadsLongest len 1 F GoesOn f → ((at : ℕ) → ends at ≡ end_of (f at)) →
     EndsLongest len (Stands F) ends
@@ -36,7 +36,7 @@ ends_longest {f = f} ends is same = record {
 }
 
 -- the place by kind
-abbrev pick : TokenKind → Option ℕ → Option ℕ → Option ℕ → Option ℕ → Option ℕ → Option ℕ
+abbrev pub pick : TokenKind → Option ℕ → Option ℕ → Option ℕ → Option ℕ → Option ℕ → Option ℕ
 pick kind.Remark r w n q s = r
 pick kind.Word r w n q s = w
 pick kind.Numeral r w n q s = n
@@ -45,11 +45,11 @@ pick kind.Sign r w n q s = s
 
 -- ---- which bytes begin which kinds
 
-abbrev rank : ℕ → ℕ
+abbrev pub rank : ℕ → ℕ
 rank b =
     cond (is_of_class Letter b) 1 (cond (is_of_class Digit b || is_of_class Point b) 2 (cond (is_of_class Quote b) 3 (cond (is_of_class ExclamationMark b) 4 (cond (is_of_class Space b) 6 5))))
 
-abbrev Ranks : TokenKind → ℕ → Type 0
+abbrev pub Ranks : TokenKind → ℕ → Type 0
 Ranks kind.Word r = r ≡ 1
 Ranks kind.Numeral r = r ≡ 2
 Ranks kind.Quoted r = r ≡ 3
@@ -62,7 +62,7 @@ letter_rank b e = rw e refl
 digit_rank : (b : ℕ) → is_of_class Digit b ≡ true → rank b ≡ 2
 digit_rank b e = let other : is_of_class Letter b ≡ false = grind (arith, nat_tests) in rw (other, e) refl
 
-known_rank : (known b : ℕ) → (b == known) ≡ true → rank b ≡ rank known
+pub known_rank : (known b : ℕ) → (b == known) ≡ true → rank b ≡ rank known
 known_rank known b e = ap rank (eqb-true b known e)
 
 r_rank : (b : ℕ) → is_of_class LetterR b ≡ true → rank b ≡ 1
@@ -92,7 +92,7 @@ module _ (line : List ℕ) where
   abbrev pub kind_end : TokenKind → ℕ → Option ℕ
   kind_end k at = pick k (reading.remark_end line at) (reading.word_end line at) (reading.numeral_end line at) (reading.quoted_end line at) (reading.sign_end line at)
 
-  kind_longest : (k : TokenKind) → EndsLongest (length line) (StandsAs line k) (kind_end k)
+  pub kind_longest : (k : TokenKind) → EndsLongest (length line) (StandsAs line k) (kind_end k)
   kind_longest kind.Word = ends_longest (reading.word_end line) (word_longest line) (word_ends line)
   kind_longest kind.Numeral = ends_longest (reading.numeral_end line) (numeral_longest line) (numeral_ends line)
   kind_longest kind.Quoted = ends_longest (reading.quoted_end line) (quoted_longest line) (quoted_ends line)
@@ -113,7 +113,7 @@ module _ (line : List ℕ) where
   opening_rank at u next (inl h) = let x = at_byte line ExclamationMark at h.0 next h.2 in (x.0, x.1, inr (known_rank 33 x.0 x.2))
   opening_rank at u next (inr h) = let x = at_rem line at u next h in (x.0, x.1, inl (r_rank x.0 x.2))
 
-  ranked : (k : TokenKind) (at next : ℕ) → StandsAs line k at next → (b : ℕ) × (slice_get line at ≡ Some b) × Ranks k (rank b)
+  pub ranked : (k : TokenKind) (at next : ℕ) → StandsAs line k at next → (b : ℕ) × (slice_get line at ≡ Some b) × Ranks k (rank b)
   ranked kind.Word at next h = let x = at_byte line Letter at h.0.0 h.1.0 h.1.1 in (x.0, x.1, letter_rank x.0 x.2)
   ranked kind.Numeral at next h = mantissa_rank at h.0.0 h.1.0 h.1.1
   ranked kind.Quoted at next h = let x = at_byte line Quote at h.0.0.0 h.1.1.0 h.1.1.1 in (x.0, x.1, known_rank 34 x.0 x.2)
@@ -121,7 +121,7 @@ module _ (line : List ℕ) where
   ranked kind.Remark at next h = opening_rank at h.0.0 h.1.0 h.1.1
 
   -- two kinds begin at one place only as a word and a remark
-  together : (k m : TokenKind) (at x y : ℕ) → StandsAs line k at x → StandsAs line m at y → ((r : ℕ) → Ranks k r → Ranks m r → ⊥) → ⊥
+  pub together : (k m : TokenKind) (at x y : ℕ) → StandsAs line k at x → StandsAs line m at y → ((r : ℕ) → Ranks k r → Ranks m r → ⊥) → ⊥
   together k m at x y h g never =
       let a = ranked k at x h in
       let b = ranked m at y g in
@@ -129,5 +129,5 @@ module _ (line : List ℕ) where
       never (rank b.0) (subst (λ (n : ℕ). Ranks k (rank n)) same a.2) b.2
 
   -- a remark ends where the line does
-  remark_whole : (at next : ℕ) → StandsAs line kind.Remark at next → length line ≤ next
+  pub remark_whole : (at next : ℕ) → StandsAs line kind.Remark at next → length line ≤ next
   remark_whole at next h = let end = h.1.2.2 in let outside = slice_get_none line h.1.2.0 end.0 in let same = end.1 in omega arith

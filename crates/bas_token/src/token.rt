@@ -1,5 +1,7 @@
 //! Tokens and their kinds.
 
+use std::alloc::AllocFailed;
+
 /// The kinds of tokens.
 #[derive(Clone, Copy, Debug, PartialEq, Eq)]
 pub enum TokenKind {
@@ -24,4 +26,27 @@ pub struct Token {
     pub from: u16,
     /// The place after the last byte.
     pub to: u16,
+}
+
+/// Why a line has no tokens.
+#[derive(Clone, Copy, Debug, PartialEq, Eq)]
+pub enum TokenFault {
+    /// The byte at this place is no space and begins no token.
+    BadToken {
+        /// The place of the byte, counted from 0.
+        at: u16,
+    },
+    /// There was no memory for the tokens.
+    Memory,
+}
+
+impl<T: Drop> From<AllocFailed<T>> for TokenFault {
+    ghost use Rattle.std.specs.Prelude.{◌≡◌};
+    ghost use Rattle.bas_token.specs.declared.token.TokenFault.TheVariants.{Memory};
+
+    ghost from_gives = { λ _ e. e ≡ Memory };
+
+    fn from(_: AllocFailed<T>) -> TokenFault {
+        TokenFault::Memory
+    }
 }
