@@ -1,3 +1,4 @@
+pub mod ByteLaws
 pub mod ElementLaws
 pub mod EndLaws
 pub mod ReaderLaws

@@ -2,3 +2,4 @@ pub mod Form
 pub mod Reader
 pub mod Element
 pub mod Laws
+pub mod Bytes

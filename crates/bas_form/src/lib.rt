@@ -5,7 +5,13 @@
 //! and each law says that it takes the longest form, of whatever forms the parts are.
 #![tactic(auto)]
 
+mod byte_class;
+mod scan;
+
 ghost use Rattle.bas_form.specs.Laws.{TerminalLaw, ThenLaw, OptionalLaw, RepeatedLaw, OrLaw, DispatchedLaw, BuiltLaw, NotAheadLaw, PerhapsLaw, ChainLaw, BetweenLaw, WorkedGrammar};
+
+pub use byte_class::ByteClass;
+pub use scan::{byte_end, past};
 
 /// One element. The reader takes the longest, and no tree but the one that it gives ends there.
 pub fn terminal_law()

@@ -11,12 +11,13 @@ use Rattle.bas_form.proofs.RepetitionLaws.{repeated_longest, all_sound, all_stop
 use Rattle.bas_token.specs.declared.token.TokenKind.{TokenKind}
 use Rattle.bas_token.specs.declared.token.TokenKind.TheVariants as kind
 use Rattle.bas_token.specs.declared.token.Token.{Token}
-use Rattle.bas_token.specs.declared.byte_class.ByteClass.TheVariants.{Space}
-use Rattle.bas_token.specs.Bytes.{is_of_class, Byte, byte}
+use Rattle.bas_form.specs.declared.byte_class.ByteClass.TheVariants.{Space}
+use Rattle.bas_form.specs.Bytes.{is_of_class, Byte, byte}
 use Rattle.bas_token.specs.Tokens.{Stands, StandsAs, IsToken, OneToken, Spaces, SpacedTokens, AreTokens, BeginsNoToken, IsBadByte}
 use Rattle.bas_token.specs.Readers.{all_of}
+use Rattle.bas_form.specs.Bytes as bytes
 use Rattle.bas_token.specs.Reading as reading
-use Rattle.bas_token.proofs.ByteLaws.{byte_longest, byte_found}
+use Rattle.bas_form.proofs.ByteLaws.{byte_longest, byte_found}
 use Rattle.bas_token.proofs.ShapeLaws.{at_byte}
 use Rattle.bas_token.proofs.RemarkLaws.{spaces_hold}
 use Rattle.bas_token.proofs.TokenLaws.{EndsLongest, pick, Ranks, rank, known_rank, kind_end, kind_longest, ranked, together, remark_whole}
@@ -269,7 +270,7 @@ module _ (line : List ℕ) where
 
   -- the code reads the token behind spaces
   pub spaced_is : (at : ℕ) → spaced_token at ≡ (reading.next_token line at >>= λ t. Some (t, t.to))
-  unfolding spaced_token built both repeated token_read reading.next_token reading.past
+  unfolding spaced_token built both repeated token_read reading.next_token bytes.past
   spaced_is at = spaced_by (all_from (byte line Space) (length line) at).0 (reading.token_at line (all_from (byte line Space) (length line) at).1)
 
   pub spaced_some : (at : ℕ) (t : Token) → reading.next_token line at ≡ Some t → spaced_token at ≡ Some (t, t.to)
@@ -303,8 +304,8 @@ module _ (line : List ℕ) where
       subst goal (read_all front at far e) (all_sound spaced_longest takes_one 0)
 
   -- the spaces behind the tokens
-  pub spaces_behind : (at : ℕ) → Stands (Spaces line) at (reading.past line Space at)
-  unfolding reading.past
+  pub spaces_behind : (at : ℕ) → Stands (Spaces line) at (bytes.past line Space at)
+  unfolding bytes.past
   spaces_behind at = ((all_from (byte line Space) (length line) at).0, all_sound (byte_longest line Space) takes_one at)
 
   -- ---- what the answers of the cut say
@@ -344,8 +345,8 @@ module _ (line : List ℕ) where
       clash : ((m : ℕ) × (t : Token) × Stands (Spaces line) end m × OneToken line m t t.to) → ⊥
       clash x = by_order x.0 x.1 x.2 x.3 (nat_lt x.0 stop) (nat_lt stop x.0) refl refl
 
-  stop_is : (end stop : ℕ) → Stands (Spaces line) end stop → (is_of_class Space (get_or line stop 0) ≡ true → ⊥) → reading.past line Space end ≡ stop
-  unfolding reading.past repeated
+  stop_is : (end stop : ℕ) → Stands (Spaces line) end stop → (is_of_class Space (get_or line stop 0) ≡ true → ⊥) → bytes.past line Space end ≡ stop
+  unfolding bytes.past repeated
   stop_is end stop spaces no_space =
       elim ((repeated_longest (byte_longest line Space) takes_one (λ n h a m k. h)).longest end spaces.0 stop spaces.1) as (λ _. (all_from (byte line Space) (length line) end).1 ≡ stop) [
         | inl e ↦ ap (λ read. read.1) (same_some e)
@@ -372,26 +373,26 @@ module _ (line : List ℕ) where
   no_space_there n l never h = never (get_or line n 0, (byte_longest line Space).sound n (get_or line n 0) (n + 1) (byte_found line Space n (get_or line n 0) (slice_get-get_or line n 0 l) h))
 
   -- behind all spaces stands no space
-  no_space_after : (at : ℕ) → Stands (Byte line Space) (reading.past line Space at) (reading.past line Space at + 1) → ⊥
-  unfolding reading.past
-  no_space_after at h = none (byte_longest line Space) (reading.past line Space at) (all_stops (byte_longest line Space) takes_one at) h.0 (reading.past line Space at + 1) h.1
+  no_space_after : (at : ℕ) → Stands (Byte line Space) (bytes.past line Space at) (bytes.past line Space at + 1) → ⊥
+  unfolding bytes.past
+  no_space_after at h = none (byte_longest line Space) (bytes.past line Space at) (all_stops (byte_longest line Space) takes_one at) h.0 (bytes.past line Space at + 1) h.1
 
   module _ (front : List Token) (at : ℕ) (far : HasRead front at) (end : reading.next_token line at ≡ None) where
     -- spaces lead to the end: these are the tokens
-    pub whole_found : reading.past line Space at ≡ length line → AreTokens line front
+    pub whole_found : bytes.past line Space at ≡ length line → AreTokens line front
     whole_found e = (at, read_sound front at far end, (let goal : ℕ → Type 0 = λ n. Stands (Spaces line) at n in subst goal e (spaces_behind at)))
 
     same_reading : (tokens : List Token) (stop : ℕ) → all_from spaced_token (length line) 0 ≡ (tokens, stop) → (front ≡ tokens) × (at ≡ stop)
     same_reading tokens stop e = let same = sym (read_all front at far end) ∙ e in (ap (λ p. p.0) same, ap (λ p. p.1) same)
 
     -- no other list is, and where one is, spaces lead to the end
-    pub whole_only : (tokens : List Token) → AreTokens line tokens → (front ≡ tokens) × (reading.past line Space at ≡ length line)
+    pub whole_only : (tokens : List Token) → AreTokens line tokens → (front ≡ tokens) × (bytes.past line Space at ≡ length line)
     whole_only tokens are =
         let read = same_reading tokens are.0 (read_only tokens are.0 (length line) are.1 are.2 no_space_at_end no_token_at_end) in
-        (read.0, ap (reading.past line Space) read.1 ∙ stop_is are.0 (length line) are.2 no_space_at_end)
+        (read.0, ap (bytes.past line Space) read.1 ∙ stop_is are.0 (length line) are.2 no_space_at_end)
 
     -- spaces lead to a byte: it is a bad one
-    pub bad_found : reading.past line Space at < length line → IsBadByte line (reading.past line Space at)
+    pub bad_found : bytes.past line Space at < length line → IsBadByte line (bytes.past line Space at)
     unfolding reading.next_token
     bad_found inside =
         record {
@@ -401,10 +402,10 @@ module _ (line : List ℕ) where
           spaces = spaces_behind at;
           inside = inside;
           no_space = λ h. no_space_after at h;
-          no_token = token_nowhere line (reading.past line Space at) end;
+          no_token = token_nowhere line (bytes.past line Space at) end;
         }
 
-    pub bad_only : (stop : ℕ) → IsBadByte line stop → reading.past line Space at ≡ stop
+    pub bad_only : (stop : ℕ) → IsBadByte line stop → bytes.past line Space at ≡ stop
     bad_only stop bad =
         let read = same_reading bad.tokens bad.end (read_only bad.tokens bad.end stop bad.before bad.spaces (no_space_there stop bad.inside bad.no_space) bad.no_token) in
-        ap (reading.past line Space) read.1 ∙ stop_is bad.end stop bad.spaces (no_space_there stop bad.inside bad.no_space)
+        ap (bytes.past line Space) read.1 ∙ stop_is bad.end stop bad.spaces (no_space_there stop bad.inside bad.no_space)

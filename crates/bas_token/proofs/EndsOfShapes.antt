@@ -5,14 +5,15 @@ use Rattle.bas_form.specs.Reader.{Reader, ◌>>=◌, terminal, ◌followed_by◌
 use Rattle.bas_form.specs.Element.{element_at}
 use Rattle.bas_form.proofs.EndLaws.{end_both, end_optional, end_either, end_built, end_maybe, end_all, end_not_ahead, unless_some, same_steps, read_to, read_none}
 use Rattle.bas_form.proofs.RepetitionLaws.{all_on, all_end}
-use Rattle.bas_token.specs.declared.byte_class.ByteClass.{ByteClass}
-use Rattle.bas_token.specs.declared.byte_class.ByteClass.TheVariants.{Space, Letter, WordPart, Dollar, Digit, Point, LetterE, PlusOrMinus, Quote, InQuotes, PlainSign, Less, Equal, Greater, EqualOrGreater, LessOrGreater, LessOrEqual, ExclamationMark, LetterR, LetterM, InRemark}
-use Rattle.bas_token.specs.Bytes.{of_class, byte}
+use Rattle.bas_form.specs.declared.byte_class.ByteClass.{ByteClass}
+use Rattle.bas_form.specs.declared.byte_class.ByteClass.TheVariants.{Space, Letter, WordPart, Dollar, Digit, Point, LetterE, PlusOrMinus, Quote, InQuotes, PlainSign, Less, Equal, Greater, EqualOrGreater, LessOrGreater, LessOrEqual, ExclamationMark, LetterR, LetterM, InRemark}
+use Rattle.bas_form.specs.Bytes.{of_class, byte}
 use Rattle.bas_token.specs.Readers.{shape, all_of, word, digits, fraction, mantissa, exponent, numeral, piece, quoted, sign, first_place, first_rem, remark}
+use Rattle.bas_form.specs.Bytes as bytes
 use Rattle.bas_token.specs.Reading as reading
 use Rattle.std.proofs.lemmas.Bool.Decides.{nat_tests}
 use Rattle.std.proofs.lemmas.Option.{slice_get_within}
-use Rattle.bas_token.proofs.ByteLaws.{past_inside}
+use Rattle.bas_form.proofs.ByteLaws.{past_inside}
 use Rattle.bas_token.proofs.ShapeLaws.{piece_longest}
 use Rattle.bas_token.proofs.RemarkLaws.{opening_longest, slice_get_none}
 
@@ -27,7 +28,7 @@ module _ {A B : Type 0} (f : Reader A) (g : Reader B) (len at : ℕ) where
 
 module _ (line : List ℕ) (at : ℕ) where
   pub word_ends : reading.word_end line at ≡ end_of (word line at)
-  unfolding reading.word_end reading.byte_end reading.past
+  unfolding reading.word_end bytes.byte_end bytes.past
   word_ends =
       same_steps (end_of (byte line Letter at)) _ _ (λ letter.
       sym (end_all_then (byte line WordPart) (optional (byte line Dollar)) (length line) letter
@@ -35,29 +36,29 @@ module _ (line : List ℕ) (at : ℕ) where
       ∙ sym (end_both (byte line Letter) (all_of line (byte line WordPart) maybe byte line Dollar) at)
 
   pub digits_ends : reading.digits_end line at ≡ end_of (digits line at)
-  unfolding reading.digits_end reading.byte_end reading.past
+  unfolding reading.digits_end bytes.byte_end bytes.past
   digits_ends = sym (end_all (byte line Digit) (byte line Digit) at (length line))
 
 module _ (line : List ℕ) (at : ℕ) where
   fraction_ends : reading.fraction_end line at ≡ end_of (fraction line at)
-  unfolding reading.fraction_end reading.byte_end
+  unfolding reading.fraction_end bytes.byte_end
   fraction_ends =
       same_steps (end_of (byte line Point at)) _ _ (λ point. ap (λ o. Some (unwrap_or o point)) (digits_ends line point)) ∙ sym (end_maybe (byte line Point) (digits line) at)
 
   bare_fraction_ends : reading.bare_fraction_end line at ≡ end_of ((byte line Point followed_by digits line) at)
-  unfolding reading.bare_fraction_end reading.byte_end
+  unfolding reading.bare_fraction_end bytes.byte_end
   bare_fraction_ends =
       same_steps (end_of (byte line Point at)) _ _ (λ point. digits_ends line point) ∙ sym (end_both (byte line Point) (digits line) at)
 
   exponent_ends : reading.exponent_end line at ≡ end_of (exponent line at)
-  unfolding reading.exponent_end reading.byte_end
+  unfolding reading.exponent_end bytes.byte_end
   exponent_ends =
       same_steps (end_of (byte line LetterE at)) _ _ (λ letter.
       digits_ends line (unwrap_or (end_of (byte line PlusOrMinus letter)) letter) ∙ sym (end_optional_then (byte line PlusOrMinus) (digits line) (length line) letter))
       ∙ sym (end_both (byte line LetterE) (optional (byte line PlusOrMinus) followed_by digits line) at)
 
   pub piece_ends : reading.piece_end line at ≡ end_of (piece line at)
-  unfolding reading.piece_end reading.byte_end reading.past
+  unfolding reading.piece_end bytes.byte_end bytes.past
   piece_ends =
       same_steps (end_of (byte line Quote at)) _ _ (λ quote. sym (end_all_then (byte line InQuotes) (byte line Quote) (length line) quote))
       ∙ sym (end_both (byte line Quote) (all_of line (byte line InQuotes) followed_by byte line Quote) at)
@@ -101,28 +102,28 @@ module _ (line : List ℕ) (at : ℕ) where
   pieces_done e = ap (λ found. found.1) (all_end (piece_longest line) (omega arith) at (read_none (piece line at) (sym (piece_ends line at) ∙ e)))
 
   pair_ends : (first second : ByteClass) → reading.pair_end line first second at ≡ end_of (shape (byte line first maybe byte line second) at)
-  unfolding reading.pair_end reading.byte_end
+  unfolding reading.pair_end bytes.byte_end
   pair_ends first second = sym (end_built _ (byte line first maybe byte line second) at ∙ end_maybe (byte line first) (byte line second) at)
 
   either_ends : {A : Type 0} (f g : Reader A) (x y : Option ℕ) → x ≡ end_of (f at) → y ≡ end_of (g at) → first_of x y ≡ end_of (either f g at)
   either_ends f g x y ex ey = ap (λ o. first_of o y) ex ∙ ap (λ o. first_of (end_of (f at)) o) ey ∙ sym (end_either f g at)
 
   pub sign_ends : reading.sign_end line at ≡ end_of (sign line at)
-  unfolding reading.sign_end reading.byte_end
+  unfolding reading.sign_end bytes.byte_end
   sign_ends =
       either_ends _ _ _ _ (sym (end_built _ (byte line PlainSign) at))
       (either_ends _ _ _ _ (pair_ends Less EqualOrGreater) (either_ends _ _ _ _ (pair_ends Equal LessOrGreater) (pair_ends Greater LessOrEqual)))
 
-  unless_ends : (class : ByteClass) (n : ℕ) → reading.unless_byte (reading.byte_end line class n) n ≡ end_of (not_ahead (element_at (of_class class) line) n)
-  unfolding reading.byte_end terminal
+  unless_ends : (class : ByteClass) (n : ℕ) → reading.unless_byte (bytes.byte_end line class n) n ≡ end_of (not_ahead (element_at (of_class class) line) n)
+  unfolding bytes.byte_end terminal
   unless_ends class n = by_element (element_at (of_class class) line n) refl ∙ sym (end_not_ahead (element_at (of_class class) line) n)
     where
       by_element : (o : Option ℕ) → element_at (of_class class) line n ≡ o → reading.unless_byte (end_of (byte line class n)) n ≡ unless_some (element_at (of_class class) line) n (element_at (of_class class) line n)
       by_element None e = rw e refl
       by_element (Some a) e = rw e refl
 
-  first_place_ends : (n : ℕ) → end_of (first_place line n) ≡ cond (nat_le n (reading.past line Space 0)) (Some n) None
-  unfolding first_place reading.past
+  first_place_ends : (n : ℕ) → end_of (first_place line n) ≡ cond (nat_le n (bytes.past line Space 0)) (Some n) None
+  unfolding first_place bytes.past
   first_place_ends n = by_test (nat_le n (all_from (byte line Space) (length line) 0).1) refl
     where
       by_test : (t : Bool) → nat_le n (all_from (byte line Space) (length line) 0).1 ≡ t →
@@ -141,7 +142,7 @@ module _ (line : List ℕ) where
   then_ends f g at x y ex ey = ap (λ o. o >>= y) ex ∙ same_steps (end_of (f at)) y (λ n. end_of (g n)) ey ∙ sym (end_both f g at)
 
   rem_word_ends : (n : ℕ) → reading.rem_word_end line n ≡ end_of (rem_word n)
-  unfolding reading.rem_word_end reading.byte_end
+  unfolding reading.rem_word_end bytes.byte_end
   rem_word_ends n =
       then_ends _ _ n _ _ refl (λ r. then_ends _ _ r _ _ refl (λ e. then_ends _ _ e _ _ refl (λ m.
       then_ends _ _ m _ _ (unless_ends line m WordPart m) (λ same. unless_ends line same Dollar same))))
@@ -149,11 +150,11 @@ module _ (line : List ℕ) where
   rem_ends : (at : ℕ) → reading.rem_end line at ≡ end_of (first_rem line at)
   unfolding reading.rem_end
   rem_ends at =
-      by_test (nat_le at (reading.past line Space 0)) refl
+      by_test (nat_le at (bytes.past line Space 0)) refl
       ∙ sym (end_built _ (first_place line followed_by rem_word) at ∙ end_both (first_place line) rem_word at)
     where
-      by_test : (t : Bool) → nat_le at (reading.past line Space 0) ≡ t →
-          cond (nat_le at (reading.past line Space 0)) (reading.rem_word_end line at) None ≡ (end_of (first_place line at) >>= λ n. end_of (rem_word n))
+      by_test : (t : Bool) → nat_le at (bytes.past line Space 0) ≡ t →
+          cond (nat_le at (bytes.past line Space 0)) (reading.rem_word_end line at) None ≡ (end_of (first_place line at) >>= λ n. end_of (rem_word n))
       by_test true e = rw (first_place_ends line at, e) (rem_word_ends at)
       by_test false e = rw (first_place_ends line at, e) refl
 
@@ -161,7 +162,7 @@ module _ (line : List ℕ) where
   opening = either (shape (byte line ExclamationMark)) (first_rem line)
 
   opening_ends : (at : ℕ) → reading.opening_end line at ≡ end_of (either (shape (byte line ExclamationMark)) (first_rem line) at)
-  unfolding reading.opening_end reading.byte_end
+  unfolding reading.opening_end bytes.byte_end
   opening_ends at = either_ends line at (shape (byte line ExclamationMark)) (first_rem line) _ _ (sym (end_built _ (byte line ExclamationMark) at)) (rem_ends at)
 
   -- nothing stands at the end of the line alone
@@ -182,22 +183,22 @@ module _ (line : List ℕ) where
   same_steps_at None f g same = refl
   same_steps_at (Some a) f g same = same a refl
 
-  all_then : (n : ℕ) → end_of ((all_of line (byte line InRemark) followed_by not_ahead (slice_get line)) n) ≡ end_of (not_ahead (slice_get line) (reading.past line InRemark n))
-  unfolding reading.past
+  all_then : (n : ℕ) → end_of ((all_of line (byte line InRemark) followed_by not_ahead (slice_get line)) n) ≡ end_of (not_ahead (slice_get line) (bytes.past line InRemark n))
+  unfolding bytes.past
   all_then n = end_all_then (byte line InRemark) (not_ahead (slice_get line)) (length line) n
 
   pub remark_ends : (at : ℕ) → reading.remark_end line at ≡ end_of (remark line at)
   unfolding reading.remark_end
   remark_ends at =
-      ap (λ o. o >>= λ opened. cond (reading.past line InRemark opened == length line) (Some (reading.past line InRemark opened)) None) (opening_ends at)
+      ap (λ o. o >>= λ opened. cond (bytes.past line InRemark opened == length line) (Some (bytes.past line InRemark opened)) None) (opening_ends at)
       ∙ same_steps_at (end_of (opening at)) _ (λ n. end_of ((all_of line (byte line InRemark) followed_by not_ahead (slice_get line)) n)) behind
       ∙ sym (end_both opening (all_of line (byte line InRemark) followed_by not_ahead (slice_get line)) at)
     where
       behind : (n : ℕ) → end_of (opening at) ≡ Some n →
-          cond (reading.past line InRemark n == length line) (Some (reading.past line InRemark n)) None ≡ end_of ((all_of line (byte line InRemark) followed_by not_ahead (slice_get line)) n)
+          cond (bytes.past line InRemark n == length line) (Some (bytes.past line InRemark n)) None ≡ end_of ((all_of line (byte line InRemark) followed_by not_ahead (slice_get line)) n)
       behind n e =
           let read = read_to (opening at) n e in
           let sound = (opening_longest line).sound at read.0 n read.1 in
           let later : at < n = (let grows = (opening_longest line).grows at read.0 n sound in omega arith) in
-          line_end (reading.past line InRemark n) (past_inside line InRemark n ((opening_longest line).within at read.0 n sound later))
+          line_end (bytes.past line InRemark n) (past_inside line InRemark n ((opening_longest line).within at read.0 n sound later))
           ∙ sym (all_then n)

@@ -1,4 +1,3 @@
-pub mod ByteLaws
 pub mod ShapeLaws
 pub mod RemarkLaws
 pub mod EndsOfShapes

@@ -9,12 +9,12 @@ use Rattle.bas_form.specs.Element.{element_at}
 use Rattle.bas_form.proofs.ReaderLaws.{same_some, some_is, begins, begun, weaker, either_longest, built_longest, not_ahead_longest}
 use Rattle.bas_form.proofs.SequenceLaws.{then_longest}
 use Rattle.bas_form.proofs.RepetitionLaws.{repeated_longest, all_sound, all_stops}
-use Rattle.bas_token.specs.declared.byte_class.ByteClass.{ByteClass}
-use Rattle.bas_token.specs.declared.byte_class.ByteClass.TheVariants.{Space, WordPart, Dollar, LetterE, ExclamationMark, LetterR, LetterM, InRemark}
-use Rattle.bas_token.specs.Bytes.{is_of_class, of_class, Byte, byte}
+use Rattle.bas_form.specs.declared.byte_class.ByteClass.{ByteClass}
+use Rattle.bas_form.specs.declared.byte_class.ByteClass.TheVariants.{Space, WordPart, Dollar, LetterE, ExclamationMark, LetterR, LetterM, InRemark}
+use Rattle.bas_form.specs.Bytes.{is_of_class, of_class, Byte, byte}
 use Rattle.bas_token.specs.Lexical.{Shape, OnlySpacesBefore, FirstPlace, FirstRem, Remark}
 use Rattle.bas_token.specs.Readers.{shape, all_of, first_place, first_rem, remark}
-use Rattle.bas_token.proofs.ByteLaws.{byte_longest, byte_found}
+use Rattle.bas_form.proofs.ByteLaws.{byte_longest, byte_found}
 use Rattle.bas_token.proofs.ShapeLaws.{at_byte, apart}
 
 pub slice_get_none : (xs : List ℕ) (i : ℕ) → slice_get xs i ≡ None → length xs ≤ i

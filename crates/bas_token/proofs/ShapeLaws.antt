@@ -10,13 +10,13 @@ use Rattle.bas_form.proofs.SequenceLaws.{then_longest, perhaps_longest}
 use Rattle.bas_form.proofs.RepetitionLaws.{repeated_longest, repeating_longest, all_on, all_end}
 use Rattle.bas_form.proofs.EndLaws.{end_terminal, end_both, end_optional, end_repeated, end_either, end_built, read_to, read_none}
 use Rattle.bas_form.proofs.ElementLaws.{element_from}
-use Rattle.bas_token.specs.declared.byte_class.ByteClass.{ByteClass}
-use Rattle.bas_token.specs.declared.byte_class.ByteClass.TheVariants.{Space, Letter, WordPart, Dollar, Digit, Point, LetterE, PlusOrMinus, Quote, InQuotes, PlainSign, Less, Equal, Greater, EqualOrGreater, LessOrGreater, LessOrEqual, ExclamationMark, LetterR, LetterM, InRemark}
-use Rattle.bas_token.specs.Bytes.{is_of_class, of_class, Byte, byte}
+use Rattle.bas_form.specs.declared.byte_class.ByteClass.{ByteClass}
+use Rattle.bas_form.specs.declared.byte_class.ByteClass.TheVariants.{Space, Letter, WordPart, Dollar, Digit, Point, LetterE, PlusOrMinus, Quote, InQuotes, PlainSign, Less, Equal, Greater, EqualOrGreater, LessOrGreater, LessOrEqual, ExclamationMark, LetterR, LetterM, InRemark}
+use Rattle.bas_form.specs.Bytes.{is_of_class, of_class, Byte, byte}
 use Rattle.bas_token.specs.Lexical.{Shape, Word, Digits, Mantissa, Numeral, Piece, Quoted, Sign}
 use Rattle.bas_token.specs.Readers.{shape, all_of, word, digits, fraction, mantissa, exponent, numeral, piece, quoted, sign}
 use Rattle.bas_token.specs.Reading as reading
-use Rattle.bas_token.proofs.ByteLaws.{byte_longest}
+use Rattle.bas_form.proofs.ByteLaws.{byte_longest}
 
 in_class : (class : ByteClass) (b a : ℕ) → of_class class b ≡ Some a → is_of_class class b ≡ true
 in_class class b a e = by_test (is_of_class class b) refl e

@@ -9,9 +9,9 @@ use Rattle.bas_form.proofs.EndLaws.{read_to, read_none}
 use Rattle.bas_token.specs.declared.token.TokenKind.{TokenKind}
 use Rattle.bas_token.specs.declared.token.TokenKind.TheVariants as kind
 use Rattle.bas_token.specs.declared.token.Token.{Token}
-use Rattle.bas_token.specs.declared.byte_class.ByteClass.{ByteClass}
-use Rattle.bas_token.specs.declared.byte_class.ByteClass.TheVariants.{Space, Letter, Digit, Point, Quote, PlainSign, Less, Equal, Greater, EqualOrGreater, LessOrGreater, LessOrEqual, ExclamationMark, LetterR}
-use Rattle.bas_token.specs.Bytes.{is_of_class, Byte}
+use Rattle.bas_form.specs.declared.byte_class.ByteClass.{ByteClass}
+use Rattle.bas_form.specs.declared.byte_class.ByteClass.TheVariants.{Space, Letter, Digit, Point, Quote, PlainSign, Less, Equal, Greater, EqualOrGreater, LessOrGreater, LessOrEqual, ExclamationMark, LetterR}
+use Rattle.bas_form.specs.Bytes.{is_of_class, Byte}
 use Rattle.bas_token.specs.Lexical.{Shape, FirstRem, Word, Mantissa, Numeral, Quoted, Sign, Remark}
 use Rattle.bas_token.specs.Tokens.{Stands, StandsAs, IsToken, OneToken}
 use Rattle.bas_token.specs.Reading as reading

@@ -1,4 +1,3 @@
-pub mod Bytes
 pub mod Lexical
 pub mod Tokens
 pub mod Readers

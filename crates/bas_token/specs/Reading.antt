@@ -5,9 +5,9 @@ use Rattle.bas_form.specs.Element.{element_at}
 use Rattle.bas_token.specs.declared.token.TokenKind.{TokenKind}
 use Rattle.bas_token.specs.declared.token.TokenKind.TheVariants as kind
 use Rattle.bas_token.specs.declared.token.Token.{Token}
-use Rattle.bas_token.specs.declared.byte_class.ByteClass.{ByteClass}
-use Rattle.bas_token.specs.declared.byte_class.ByteClass.TheVariants.{Space, Letter, WordPart, Dollar, Digit, Point, LetterE, PlusOrMinus, Quote, InQuotes, PlainSign, Less, Equal, Greater, EqualOrGreater, LessOrGreater, LessOrEqual, ExclamationMark, LetterR, LetterM, InRemark}
-use Rattle.bas_token.specs.Bytes.{byte, of_class}
+use Rattle.bas_form.specs.declared.byte_class.ByteClass.{ByteClass}
+use Rattle.bas_form.specs.declared.byte_class.ByteClass.TheVariants.{Space, Letter, WordPart, Dollar, Digit, Point, LetterE, PlusOrMinus, Quote, InQuotes, PlainSign, Less, Equal, Greater, EqualOrGreater, LessOrGreater, LessOrEqual, ExclamationMark, LetterR, LetterM, InRemark}
+use Rattle.bas_form.specs.Bytes.{byte_end, past}
 use Rattle.bas_token.specs.Readers.{piece}
 
 -- nothing, where no such byte stands
@@ -21,28 +21,20 @@ token_to kind at None = None
 token_to kind at (Some to) = Some (record { kind = kind; from = at; to = to })
 
 module _ (line : List ℕ) where
-  -- behind one byte of a class
-  unfoldable pub byte_end : ByteClass → ℕ → Option ℕ
-  byte_end class at = end_of (byte line class at)
-
-  -- behind all bytes of a class
-  unfoldable pub past : ByteClass → ℕ → ℕ
-  past class at = (all_from (byte line class) (length line) at).1
-
   unfoldable pub word_end : ℕ → Option ℕ
   word_end at = do
-    letter ← byte_end Letter at
-    Some (unwrap_or (byte_end Dollar (past WordPart letter)) (past WordPart letter))
+    letter ← byte_end line Letter at
+    Some (unwrap_or (byte_end line Dollar (past line WordPart letter)) (past line WordPart letter))
 
   unfoldable pub digits_end : ℕ → Option ℕ
   digits_end at = do
-    digit ← byte_end Digit at
-    Some (past Digit digit)
+    digit ← byte_end line Digit at
+    Some (past line Digit digit)
 
   -- a point and the digits behind it, if there are any
   unfoldable pub fraction_end : ℕ → Option ℕ
   fraction_end at = do
-    point ← byte_end Point at
+    point ← byte_end line Point at
     Some (unwrap_or (digits_end point) point)
 
   unfoldable pub whole_end : ℕ → Option ℕ
@@ -52,13 +44,13 @@ module _ (line : List ℕ) where
 
   unfoldable pub bare_fraction_end : ℕ → Option ℕ
   bare_fraction_end at = do
-    point ← byte_end Point at
+    point ← byte_end line Point at
     digits_end point
 
   unfoldable pub exponent_end : ℕ → Option ℕ
   exponent_end at = do
-    letter ← byte_end LetterE at
-    digits_end (unwrap_or (byte_end PlusOrMinus letter) letter)
+    letter ← byte_end line LetterE at
+    digits_end (unwrap_or (byte_end line PlusOrMinus letter) letter)
 
   unfoldable pub mantissa_end : ℕ → Option ℕ
   mantissa_end at = first_of (whole_end at) (bare_fraction_end at)
@@ -70,8 +62,8 @@ module _ (line : List ℕ) where
 
   unfoldable pub piece_end : ℕ → Option ℕ
   piece_end at = do
-    quote ← byte_end Quote at
-    byte_end Quote (past InQuotes quote)
+    quote ← byte_end line Quote at
+    byte_end line Quote (past line InQuotes quote)
 
   -- behind all pieces of a quoted text
   unfoldable pub pieces_past : ℕ → ℕ
@@ -85,33 +77,33 @@ module _ (line : List ℕ) where
   -- one byte and perhaps another
   unfoldable pub pair_end : ByteClass → ByteClass → ℕ → Option ℕ
   pair_end first second at = do
-    one ← byte_end first at
-    Some (unwrap_or (byte_end second one) one)
+    one ← byte_end line first at
+    Some (unwrap_or (byte_end line second one) one)
 
   unfoldable pub sign_end : ℕ → Option ℕ
   sign_end at =
-      first_of (byte_end PlainSign at)
+      first_of (byte_end line PlainSign at)
       (first_of (pair_end Less EqualOrGreater at) (first_of (pair_end Equal LessOrGreater at) (pair_end Greater LessOrEqual at)))
 
   unfoldable pub rem_word_end : ℕ → Option ℕ
   rem_word_end at = do
-    r ← byte_end LetterR at
-    e ← byte_end LetterE r
-    m ← byte_end LetterM e
-    same ← unless_byte (byte_end WordPart m) m
-    unless_byte (byte_end Dollar same) same
+    r ← byte_end line LetterR at
+    e ← byte_end line LetterE r
+    m ← byte_end line LetterM e
+    same ← unless_byte (byte_end line WordPart m) m
+    unless_byte (byte_end line Dollar same) same
 
   -- the word REM at a place that is no later than the first token's
   unfoldable pub rem_end : ℕ → Option ℕ
-  rem_end at = if nat_le at (past Space 0) then rem_word_end at else None
+  rem_end at = if nat_le at (past line Space 0) then rem_word_end at else None
 
   unfoldable pub opening_end : ℕ → Option ℕ
-  opening_end at = first_of (byte_end ExclamationMark at) (rem_end at)
+  opening_end at = first_of (byte_end line ExclamationMark at) (rem_end at)
 
   unfoldable pub remark_end : ℕ → Option ℕ
   remark_end at = do
     opened ← opening_end at
-    if past InRemark opened == length line then Some (past InRemark opened) else None
+    if past line InRemark opened == length line then Some (past line InRemark opened) else None
 
   -- the token at a place
   unfoldable pub token_at : ℕ → Option Token
@@ -123,4 +115,4 @@ module _ (line : List ℕ) where
 
   -- the token behind spaces
   unfoldable pub next_token : ℕ → Option Token
-  next_token at = token_at (past Space at)
+  next_token at = token_at (past line Space at)

@@ -4,8 +4,8 @@ use Rattle.bas_form.specs.Form.{Form, ◌then◌, Repeated, Built}
 use Rattle.bas_token.specs.declared.token.TokenKind.{TokenKind}
 use Rattle.bas_token.specs.declared.token.TokenKind.TheVariants as kind
 use Rattle.bas_token.specs.declared.token.Token.{Token}
-use Rattle.bas_token.specs.declared.byte_class.ByteClass.TheVariants.{Space}
-use Rattle.bas_token.specs.Bytes.{Byte}
+use Rattle.bas_form.specs.declared.byte_class.ByteClass.TheVariants.{Space}
+use Rattle.bas_form.specs.Bytes.{Byte}
 use Rattle.bas_token.specs.Lexical.{Word, Numeral, Quoted, Sign, Remark}
 
 -- the form stands from the one place up to the other

@@ -1,22 +1,22 @@
 //! Cutting a line into tokens.
 
 ghost use Rattle.std.specs.Prelude.{◌≡◌, ℕ, ◌+◌, ◌≤◌, ◌<◌, ◌⊎◌, length, List, IfOk, IfSome, IsErrOf, MatchResult};
+ghost use Rattle.bas_form.specs.Bytes as bytes;
 ghost use Rattle.bas_token.specs.Reading as reading;
 ghost use Rattle.bas_token.specs.Tokens.{AreTokens, IsBadByte};
-ghost use Rattle.bas_token.specs.declared.byte_class.ByteClass.TheVariants.{Space};
+ghost use Rattle.bas_form.specs.declared.byte_class.ByteClass.TheVariants.{Space};
 ghost use Rattle.bas_token.specs.declared.token.Token.{Token};
 
-use crate::byte_class::ByteClass;
-use crate::scan::past;
 use crate::shape::{numeral_end, quoted_end, remark_end, sign_end, word_end};
 use crate::token::{Token, TokenFault, TokenKind};
+use bas_form::{ByteClass, past};
 use std::alloc::Global;
 
 /// The token at a place. `first` is the first token's place.
 #[tactic(auto, unfolding(crate::specs::Reading::token_at))]
 fn token_at(line: &[u8], first: usize, at: usize) -> Option<Token>
     requires few { length line.now ≤ 4096 }
-    requires first_place { first ≡ reading.past line.now Space 0 }
+    requires first_place { first ≡ bytes.past line.now Space 0 }
     requires inside { at ≤ length line.now }
     ensures value { result ≡ reading.token_at line.now at }
     ensures within { IfSome result (λ token. token.to ≤ length line.now) }
@@ -46,7 +46,7 @@ fn token_at(line: &[u8], first: usize, at: usize) -> Option<Token>
 #[tactic(auto, unfolding(crate::specs::Reading::next_token))]
 fn next_token(line: &[u8], first: usize, at: usize) -> Option<Token>
     requires few { length line.now ≤ 4096 }
-    requires first_place { first ≡ reading.past line.now Space 0 }
+    requires first_place { first ≡ bytes.past line.now Space 0 }
     requires inside { at ≤ length line.now }
     ensures value { result ≡ reading.next_token line.now at }
     ensures within { IfSome result (λ token. token.to ≤ length line.now) }

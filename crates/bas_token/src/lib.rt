@@ -1,9 +1,7 @@
 //! Tokens.
 #![tactic(auto)]
 
-mod byte_class;
 mod cut;
-mod scan;
 mod shape;
 mod token;
 

@@ -1,11 +1,11 @@
 //! Where the token ends that a byte begins, kind by kind.
 
 ghost use Rattle.std.specs.Prelude.{◌≡◌, ◌+◌, ◌≤◌, ◌<◌, length, IfSome};
+ghost use Rattle.bas_form.specs.Bytes as bytes;
 ghost use Rattle.bas_token.specs.Reading as reading;
-ghost use Rattle.bas_token.specs.declared.byte_class.ByteClass.TheVariants.{Space};
+ghost use Rattle.bas_form.specs.declared.byte_class.ByteClass.TheVariants.{Space};
 
-use crate::byte_class::ByteClass;
-use crate::scan::{byte_end, past};
+use bas_form::{ByteClass, byte_end, past};
 
 #[tactic(auto, unfolding(crate::specs::Reading::word_end))]
 pub(crate) fn word_end(line: &[u8], at: usize) -> Option<usize>
@@ -176,7 +176,7 @@ fn rem_word_end(line: &[u8], at: usize) -> Option<usize>
 
 #[tactic(auto, unfolding(crate::specs::Reading::rem_end))]
 fn rem_end(line: &[u8], first: usize, at: usize) -> Option<usize>
-    requires { first ≡ reading.past line.now Space 0 }
+    requires { first ≡ bytes.past line.now Space 0 }
     ensures value { result ≡ reading.rem_end line.now at }
     ensures within { IfSome result (λ next. next ≤ length line.now) }
     ensures grows { IfSome result (λ next. at < next) }
@@ -190,7 +190,7 @@ fn rem_end(line: &[u8], first: usize, at: usize) -> Option<usize>
 
 #[tactic(auto, unfolding(crate::specs::Reading::opening_end))]
 fn opening_end(line: &[u8], first: usize, at: usize) -> Option<usize>
-    requires { first ≡ reading.past line.now Space 0 }
+    requires { first ≡ bytes.past line.now Space 0 }
     ensures value { result ≡ reading.opening_end line.now at }
     ensures within { IfSome result (λ next. next ≤ length line.now) }
     ensures grows { IfSome result (λ next. at < next) }
@@ -203,7 +203,7 @@ fn opening_end(line: &[u8], first: usize, at: usize) -> Option<usize>
 
 #[tactic(auto, unfolding(crate::specs::Reading::remark_end))]
 pub(crate) fn remark_end(line: &[u8], first: usize, at: usize) -> Option<usize>
-    requires { first ≡ reading.past line.now Space 0 }
+    requires { first ≡ bytes.past line.now Space 0 }
     ensures value { result ≡ reading.remark_end line.now at }
     ensures within { IfSome result (λ next. next ≤ length line.now) }
     ensures grows { IfSome result (λ next. at < next) }

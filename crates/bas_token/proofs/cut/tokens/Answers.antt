@@ -2,7 +2,8 @@ use Rattle.std.proofs.Common.{◌≡◌, ◌<◌, ℕ, length, List, inl, sym, a
 use Rattle.bas_token.specs.declared.token.Token.{Token}
 use Rattle.bas_token.specs.declared.token.TokenFault.{TokenFault}
 use Rattle.bas_token.specs.declared.token.TokenFault.TheVariants.{BadToken, Memory}
-use Rattle.bas_token.specs.declared.byte_class.ByteClass.TheVariants.{Space}
+use Rattle.bas_form.specs.declared.byte_class.ByteClass.TheVariants.{Space}
+use Rattle.bas_form.specs.Bytes as bytes
 use Rattle.bas_token.specs.Reading as reading
 use Rattle.bas_token.specs.Tokens.{AreTokens, IsBadByte}
 use Rattle.bas_token.proofs.CutLaws.{HasRead, read_on, whole_found, whole_only, bad_found, bad_only}
@@ -43,7 +44,7 @@ returns-else-end-line-clause-bad c at e =
     let same : c.past-end.result ≡ at = cc in
     let there = c.past-end.ensures.value in
     let within = c.past-end.ensures.within in
-    let inside : reading.past c.args.line.now Space c.loop-token.at < length c.args.line.now = omega arith in
+    let inside : bytes.past c.args.line.now Space c.loop-token.at < length c.args.line.now = omega arith in
     subst (IsBadByte c.args.line.now) (sym c.past-end.ensures.value ∙ same)
     (bad_found c.args.line.now c.loop-token.found.items c.loop-token.at c.loop-token.invariant.read (sym c.next_token.ensures.value ∙ c.in_default.is) inside)
 

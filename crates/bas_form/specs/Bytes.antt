@@ -1,16 +1,20 @@
--- The classes of bytes that tokens are made of.
-use Rattle.std.specs.Prelude.{◌≡◌, ℕ, ◌==◌, ◌||◌, ◌&&◌, not, nat_le, Bool, true, false, if◌then◌else◌, List, [], ◌∷◌, Option, Some, None, codes}
+-- The classes of bytes that the texts of the language are made of.
+use Rattle.std.specs.Prelude.{◌≡◌, ℕ, ◌==◌, ◌||◌, ◌&&◌, not, nat_le, Bool, true, false, if◌then◌else◌, List, [], ◌∷◌, length, Option, Some, None, codes}
 use Rattle.std.specs.List.{list_any}
 use Rattle.std.specs.Char.{is_ascii_digit, is_ascii_alphabetic}
 use Rattle.bas_form.specs.Form.{Form, Terminal}
-use Rattle.bas_form.specs.Reader.{Reader, terminal}
+use Rattle.bas_form.specs.Reader.{Reader, terminal, all_from, end_of}
 use Rattle.bas_form.specs.Element.{element_at}
-use Rattle.bas_token.specs.declared.byte_class.ByteClass.{ByteClass}
-use Rattle.bas_token.specs.declared.byte_class.ByteClass.TheVariants.{Space, Letter, WordPart, Dollar, Digit, Point, LetterE, PlusOrMinus, Quote, InQuotes, PlainSign, Less, Equal, Greater, EqualOrGreater, LessOrGreater, LessOrEqual, ExclamationMark, LetterR, LetterM, InRemark}
+use Rattle.bas_form.specs.declared.byte_class.ByteClass.{ByteClass}
+use Rattle.bas_form.specs.declared.byte_class.ByteClass.TheVariants.{Space, Letter, WordPart, Dollar, Digit, Point, LetterE, PlusOrMinus, Quote, InQuotes, PlainSign, Less, Equal, Greater, EqualOrGreater, LessOrGreater, LessOrEqual, ExclamationMark, LetterR, LetterM, InRemark, Comma, DataStart, DataPart}
 
 -- a byte that may stand in quotes and in remarks: no control byte but a tab
 abbrev pub is_standing : ℕ → Bool
 is_standing b = (nat_le 32 b && not (b == 127)) || b == 9
+
+-- a byte that may stand in a datum with no quotes
+abbrev pub is_unquoted : ℕ → Bool
+is_unquoted b = nat_le 32 b && nat_le b 126 && not (b == 34) && not (b == 44)
 
 -- the bytes of each class
 abbrev pub is_of_class : ByteClass → ℕ → Bool
@@ -35,6 +39,9 @@ is_of_class ExclamationMark b = b == 33
 is_of_class LetterR b = b == 82 || b == 114
 is_of_class LetterM b = b == 77 || b == 109
 is_of_class InRemark b = is_standing b
+is_of_class Comma b = b == 44
+is_of_class DataStart b = is_unquoted b && not (b == 32)
+is_of_class DataPart b = is_unquoted b || b == 9
 
 -- the byte, where it is of the class
 abbrev pub of_class : ByteClass → ℕ → Option ℕ
@@ -46,3 +53,11 @@ Byte line class = Terminal (element_at (of_class class) line)
 
 abbrev pub byte : List ℕ → ByteClass → Reader ℕ
 byte line class = terminal (element_at (of_class class) line)
+
+-- behind one byte of a class
+unfoldable pub byte_end : List ℕ → ByteClass → ℕ → Option ℕ
+byte_end text class at = end_of (byte text class at)
+
+-- behind all bytes of a class
+unfoldable pub past : List ℕ → ByteClass → ℕ → ℕ
+past text class at = (all_from (byte text class) (length text) at).1

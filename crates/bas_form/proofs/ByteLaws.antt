@@ -7,9 +7,8 @@ use Rattle.bas_form.specs.Element.{element_at}
 use Rattle.bas_form.proofs.ReaderLaws.{terminal_longest}
 use Rattle.bas_form.proofs.RepetitionLaws.{all_on, all_end, all_sound, repeated_longest}
 use Rattle.bas_form.proofs.ElementLaws.{element_inside, element_is, element_none}
-use Rattle.bas_token.specs.declared.byte_class.ByteClass.{ByteClass}
-use Rattle.bas_token.specs.Bytes.{is_of_class, of_class, Byte, byte}
-use Rattle.bas_token.specs.Reading.{byte_end, past}
+use Rattle.bas_form.specs.declared.byte_class.ByteClass.{ByteClass}
+use Rattle.bas_form.specs.Bytes.{is_of_class, of_class, Byte, byte, byte_end, past}
 
 module _ (line : List ℕ) (class : ByteClass) where
   pub byte_longest : ReadsLongest (length line) 1 (Byte line class) (λ _. ⊥) (byte line class)
