@@ -1,12 +1,12 @@
 -- What one byte of a class reads as, and all bytes of a class.
-use Rattle.std.proofs.Common.{◌≡◌, ℕ, ◌+◌, ◌<◌, ◌≤◌, Bool, true, false, List, length, get_or, Option, Some, None, slice_get, refl, sym, ap, ◌∙◌, arith}
+use Rattle.std.proofs.Common.{◌≡◌, ℕ, ◌+◌, ◌<◌, ◌≤◌, Bool, true, false, List, length, get_or, Option, Some, None, slice_get, refl, sym, ap, ◌∙◌, subst, arith}
 use Rattle.std.proofs.lemmas.Option.{slice_get-get_or, slice_get_past}
 use Rattle.bas_form.specs.Form.{Form}
-use Rattle.bas_form.specs.Reader.{Reader, terminal, end_of, all_from, ReadsLongest}
+use Rattle.bas_form.specs.Reader.{Reader, terminal, end_of, all_from, ReadsLongest, Begins}
 use Rattle.bas_form.specs.Element.{element_at}
-use Rattle.bas_form.proofs.ReaderLaws.{terminal_longest}
+use Rattle.bas_form.proofs.ReaderLaws.{terminal_longest, begun}
 use Rattle.bas_form.proofs.RepetitionLaws.{all_on, all_end, all_sound, repeated_longest}
-use Rattle.bas_form.proofs.ElementLaws.{element_inside, element_is, element_none}
+use Rattle.bas_form.proofs.ElementLaws.{element_inside, element_is, element_none, element_from}
 use Rattle.bas_form.specs.declared.byte_class.ByteClass.{ByteClass}
 use Rattle.bas_form.specs.Bytes.{is_of_class, of_class, Byte, byte, byte_end, past}
 
@@ -64,3 +64,29 @@ module _ (line : List ℕ) (class : ByteClass) where
       let sound = all_sound byte_longest (omega arith) at in
       let grows = longest.grows at read.0 read.1 sound in
       inside_by at read.1 (length line) (omega arith) (longest.within at read.0 read.1 sound) l
+
+in_class : (class : ByteClass) (b a : ℕ) → of_class class b ≡ Some a → is_of_class class b ≡ true
+in_class class b a e = by_test (is_of_class class b) refl e
+  where
+    by_test : (t : Bool) → is_of_class class b ≡ t → of_class class b ≡ Some a → is_of_class class b ≡ true
+    by_test true et e = et
+    by_test false et e = let f = rw et at e in absurd (cc)
+
+module _ (line : List ℕ) where
+  -- the byte that stands there
+  pub at_byte : (class : ByteClass) (n a next : ℕ) → Byte line class n a next → (b : ℕ) × (slice_get line n ≡ Some b) × (is_of_class class b ≡ true)
+  at_byte class n a next h = let x = element_from (of_class class) line n a h.0 in (x.0, x.1, in_class class x.0 a x.2)
+
+  pub begins_byte : (class : ByteClass) (n : ℕ) → Begins (byte line class) n → (b : ℕ) × (slice_get line n ≡ Some b) × (is_of_class class b ≡ true)
+  begins_byte class n h = let x = begun (byte_longest line class) n h in at_byte class n x.0 x.1 x.2
+
+  -- two classes with no byte in common don't stand at one place
+  pub apart : (c d : ByteClass) → ((b : ℕ) → is_of_class c b ≡ true → is_of_class d b ≡ true → ⊥) → (n : ℕ) →
+      (x : (b : ℕ) × (slice_get line n ≡ Some b) × (is_of_class c b ≡ true)) → (y : (b : ℕ) × (slice_get line n ≡ Some b) × (is_of_class d b ≡ true)) → ⊥
+  apart c d never n x y =
+      let same : x.0 ≡ y.0 = (let e = sym x.1 ∙ y.1 in cc) in
+      never y.0 (subst (λ (b : ℕ). is_of_class c b ≡ true) same x.2) y.2
+
+  -- a class is not where the form of another class begins
+  pub never_both : (c d : ByteClass) → ((b : ℕ) → is_of_class c b ≡ true → is_of_class d b ≡ true → ⊥) → (n : ℕ) → Begins (byte line c) n → (a m : ℕ) → Byte line d n a m → ⊥
+  never_both c d never n h a m k = apart c d never n (begins_byte c n h) (at_byte d n a m k)

@@ -50,6 +50,15 @@ module _ {A B : Type 0} (f : Reader A) (g : Reader B) (at : ℕ) where
   pub end_all : (len : ℕ) → end_of ((f followed_by repeated g len) at) ≡ (end_of (f at) >>= λ middle. Some (all_from g len middle).1)
   end_all len = end_both f (repeated g len) at ∙ same_steps (end_of (f at)) (λ middle. end_of (repeated g len middle)) (λ middle. Some (all_from g len middle).1) (λ middle. end_repeated g middle len)
 
+-- one reading behind any number of another
+module _ {A B : Type 0} (f : Reader A) (g : Reader B) (len at : ℕ) where
+  pub end_all_then : end_of ((repeated f len followed_by g) at) ≡ end_of (g (all_from f len at).1)
+  unfolding repeated
+  end_all_then = end_both (repeated f len) g at
+
+  pub end_optional_then : end_of ((optional f followed_by g) at) ≡ end_of (g (unwrap_or (end_of (f at)) at))
+  end_optional_then = end_both (optional f) g at ∙ ap (λ o. o >>= λ middle. end_of (g middle)) (end_optional f at)
+
 module _ {A : Type 0} (element : ℕ → Option A) (at : ℕ) where
   abbrev pub unless_some : Option A → Option ℕ
   unless_some None = Some at

@@ -1,3 +1,4 @@
+pub mod QuotedLaws
 pub mod ByteLaws
 pub mod ElementLaws
 pub mod EndLaws

@@ -3,3 +3,4 @@ pub mod Reader
 pub mod Element
 pub mod Laws
 pub mod Bytes
+pub mod Quoted

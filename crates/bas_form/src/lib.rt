@@ -6,11 +6,13 @@
 #![tactic(auto)]
 
 mod byte_class;
+mod quoted;
 mod scan;
 
 ghost use Rattle.bas_form.specs.Laws.{TerminalLaw, ThenLaw, OptionalLaw, RepeatedLaw, OrLaw, DispatchedLaw, BuiltLaw, NotAheadLaw, PerhapsLaw, ChainLaw, BetweenLaw, WorkedGrammar};
 
 pub use byte_class::ByteClass;
+pub use quoted::piece_end;
 pub use scan::{byte_end, past};
 
 /// One element. The reader takes the longest, and no tree but the one that it gives ends there.

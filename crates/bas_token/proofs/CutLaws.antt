@@ -18,7 +18,7 @@ use Rattle.bas_token.specs.Readers.{all_of}
 use Rattle.bas_form.specs.Bytes as bytes
 use Rattle.bas_token.specs.Reading as reading
 use Rattle.bas_form.proofs.ByteLaws.{byte_longest, byte_found}
-use Rattle.bas_token.proofs.ShapeLaws.{at_byte}
+use Rattle.bas_form.proofs.ByteLaws.{at_byte}
 use Rattle.bas_token.proofs.RemarkLaws.{spaces_hold}
 use Rattle.bas_token.proofs.TokenLaws.{EndsLongest, pick, Ranks, rank, known_rank, kind_end, kind_longest, ranked, together, remark_whole}
 

@@ -3,28 +3,20 @@ use Rattle.std.proofs.Common.{◌≡◌, ℕ, ◌+◌, ◌<◌, ◌≤◌, ◌==
 use Rattle.std.specs.Prelude.{unwrap_or}
 use Rattle.bas_form.specs.Reader.{Reader, ◌>>=◌, terminal, ◌followed_by◌, ◌maybe◌, optional, repeated, either, first_of, not_ahead, built, all_from, end_of}
 use Rattle.bas_form.specs.Element.{element_at}
-use Rattle.bas_form.proofs.EndLaws.{end_both, end_optional, end_either, end_built, end_maybe, end_all, end_not_ahead, unless_some, same_steps, read_to, read_none}
+use Rattle.bas_form.proofs.EndLaws.{end_both, end_optional, end_either, end_built, end_maybe, end_all, end_all_then, end_optional_then, end_not_ahead, unless_some, same_steps, read_to, read_none}
 use Rattle.bas_form.proofs.RepetitionLaws.{all_on, all_end}
 use Rattle.bas_form.specs.declared.byte_class.ByteClass.{ByteClass}
 use Rattle.bas_form.specs.declared.byte_class.ByteClass.TheVariants.{Space, Letter, WordPart, Dollar, Digit, Point, LetterE, PlusOrMinus, Quote, InQuotes, PlainSign, Less, Equal, Greater, EqualOrGreater, LessOrGreater, LessOrEqual, ExclamationMark, LetterR, LetterM, InRemark}
 use Rattle.bas_form.specs.Bytes.{of_class, byte}
-use Rattle.bas_token.specs.Readers.{shape, all_of, word, digits, fraction, mantissa, exponent, numeral, piece, quoted, sign, first_place, first_rem, remark}
+use Rattle.bas_token.specs.Readers.{shape, all_of, word, digits, fraction, mantissa, exponent, numeral, sign, first_place, first_rem, remark}
 use Rattle.bas_form.specs.Bytes as bytes
 use Rattle.bas_token.specs.Reading as reading
 use Rattle.std.proofs.lemmas.Bool.Decides.{nat_tests}
 use Rattle.std.proofs.lemmas.Option.{slice_get_within}
 use Rattle.bas_form.proofs.ByteLaws.{past_inside}
-use Rattle.bas_token.proofs.ShapeLaws.{piece_longest}
+use Rattle.bas_form.specs.Quoted.{piece, quoted, piece_end}
+use Rattle.bas_form.proofs.QuotedLaws.{piece_longest, piece_ends}
 use Rattle.bas_token.proofs.RemarkLaws.{opening_longest, slice_get_none}
-
--- one reading behind any number of another
-module _ {A B : Type 0} (f : Reader A) (g : Reader B) (len at : ℕ) where
-  end_all_then : end_of ((repeated f len followed_by g) at) ≡ end_of (g (all_from f len at).1)
-  unfolding repeated
-  end_all_then = end_both (repeated f len) g at
-
-  end_optional_then : end_of ((optional f followed_by g) at) ≡ end_of (g (unwrap_or (end_of (f at)) at))
-  end_optional_then = end_both (optional f) g at ∙ ap (λ o. o >>= λ middle. end_of (g middle)) (end_optional f at)
 
 module _ (line : List ℕ) (at : ℕ) where
   pub word_ends : reading.word_end line at ≡ end_of (word line at)
@@ -57,12 +49,6 @@ module _ (line : List ℕ) (at : ℕ) where
       digits_ends line (unwrap_or (end_of (byte line PlusOrMinus letter)) letter) ∙ sym (end_optional_then (byte line PlusOrMinus) (digits line) (length line) letter))
       ∙ sym (end_both (byte line LetterE) (optional (byte line PlusOrMinus) followed_by digits line) at)
 
-  pub piece_ends : reading.piece_end line at ≡ end_of (piece line at)
-  unfolding reading.piece_end bytes.byte_end bytes.past
-  piece_ends =
-      same_steps (end_of (byte line Quote at)) _ _ (λ quote. sym (end_all_then (byte line InQuotes) (byte line Quote) (length line) quote))
-      ∙ sym (end_both (byte line Quote) (all_of line (byte line InQuotes) followed_by byte line Quote) at)
-
 module _ (line : List ℕ) (at : ℕ) where
   whole_ends : reading.whole_end line at ≡ end_of ((digits line maybe fraction line) at)
   unfolding reading.whole_end
@@ -91,13 +77,13 @@ module _ (line : List ℕ) (at : ℕ) where
   quoted_ends =
       ap (λ o. o >>= λ first. Some (reading.pieces_past line first)) (piece_ends line at) ∙ sym (end_all (piece line) (piece line) at (length line))
 
-  pub pieces_on : (next : ℕ) → reading.piece_end line at ≡ Some next → reading.pieces_past line next ≡ reading.pieces_past line at
+  pub pieces_on : (next : ℕ) → piece_end line at ≡ Some next → reading.pieces_past line next ≡ reading.pieces_past line at
   unfolding reading.pieces_past
   pieces_on next e =
       let read = read_to (piece line at) next (sym (piece_ends line at) ∙ e) in
       sym (ap (λ found. found.1) (all_on (piece_longest line) (omega arith) at (read.0, next) read.1))
 
-  pub pieces_done : reading.piece_end line at ≡ None → reading.pieces_past line at ≡ at
+  pub pieces_done : piece_end line at ≡ None → reading.pieces_past line at ≡ at
   unfolding reading.pieces_past
   pieces_done e = ap (λ found. found.1) (all_end (piece_longest line) (omega arith) at (read_none (piece line at) (sym (piece_ends line at) ∙ e)))
 

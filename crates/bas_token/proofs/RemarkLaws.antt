@@ -15,7 +15,7 @@ use Rattle.bas_form.specs.Bytes.{is_of_class, of_class, Byte, byte}
 use Rattle.bas_token.specs.Lexical.{Shape, OnlySpacesBefore, FirstPlace, FirstRem, Remark}
 use Rattle.bas_token.specs.Readers.{shape, all_of, first_place, first_rem, remark}
 use Rattle.bas_form.proofs.ByteLaws.{byte_longest, byte_found}
-use Rattle.bas_token.proofs.ShapeLaws.{at_byte, apart}
+use Rattle.bas_form.proofs.ByteLaws.{at_byte, apart}
 
 pub slice_get_none : (xs : List ℕ) (i : ℕ) → slice_get xs i ≡ None → length xs ≤ i
 slice_get_none xs i e = elim (slice_get_cases xs i).1 as (λ _. length xs ≤ i) [ inl h ↦ absurd (let both : Some h.0 ≡ None = sym h.2 ∙ e in cc) | inr h ↦ h.0 ]

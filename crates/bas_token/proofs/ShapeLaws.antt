@@ -13,33 +13,12 @@ use Rattle.bas_form.proofs.ElementLaws.{element_from}
 use Rattle.bas_form.specs.declared.byte_class.ByteClass.{ByteClass}
 use Rattle.bas_form.specs.declared.byte_class.ByteClass.TheVariants.{Space, Letter, WordPart, Dollar, Digit, Point, LetterE, PlusOrMinus, Quote, InQuotes, PlainSign, Less, Equal, Greater, EqualOrGreater, LessOrGreater, LessOrEqual, ExclamationMark, LetterR, LetterM, InRemark}
 use Rattle.bas_form.specs.Bytes.{is_of_class, of_class, Byte, byte}
-use Rattle.bas_token.specs.Lexical.{Shape, Word, Digits, Mantissa, Numeral, Piece, Quoted, Sign}
-use Rattle.bas_token.specs.Readers.{shape, all_of, word, digits, fraction, mantissa, exponent, numeral, piece, quoted, sign}
+use Rattle.bas_token.specs.Lexical.{Shape, Word, Digits, Mantissa, Numeral, Sign}
+use Rattle.bas_token.specs.Readers.{shape, all_of, word, digits, fraction, mantissa, exponent, numeral, sign}
 use Rattle.bas_token.specs.Reading as reading
-use Rattle.bas_form.proofs.ByteLaws.{byte_longest}
-
-in_class : (class : ByteClass) (b a : ℕ) → of_class class b ≡ Some a → is_of_class class b ≡ true
-in_class class b a e = by_test (is_of_class class b) refl e
-  where
-    by_test : (t : Bool) → is_of_class class b ≡ t → of_class class b ≡ Some a → is_of_class class b ≡ true
-    by_test true et e = et
-    by_test false et e = let f = rw et at e in absurd (cc)
+use Rattle.bas_form.proofs.ByteLaws.{byte_longest, at_byte, begins_byte, apart, never_both}
 
 module _ (line : List ℕ) where
-  -- the byte that stands there
-  pub at_byte : (class : ByteClass) (n a next : ℕ) → Byte line class n a next → (b : ℕ) × (slice_get line n ≡ Some b) × (is_of_class class b ≡ true)
-  at_byte class n a next h = let x = element_from (of_class class) line n a h.0 in (x.0, x.1, in_class class x.0 a x.2)
-
-  begins_byte : (class : ByteClass) (n : ℕ) → Begins (byte line class) n → (b : ℕ) × (slice_get line n ≡ Some b) × (is_of_class class b ≡ true)
-  begins_byte class n h = let x = begun (byte_longest line class) n h in at_byte class n x.0 x.1 x.2
-
-  -- two classes with no byte in common don't stand at one place
-  pub apart : (c d : ByteClass) → ((b : ℕ) → is_of_class c b ≡ true → is_of_class d b ≡ true → ⊥) → (n : ℕ) →
-      (x : (b : ℕ) × (slice_get line n ≡ Some b) × (is_of_class c b ≡ true)) → (y : (b : ℕ) × (slice_get line n ≡ Some b) × (is_of_class d b ≡ true)) → ⊥
-  apart c d never n x y =
-      let same : x.0 ≡ y.0 = (let e = sym x.1 ∙ y.1 in cc) in
-      never y.0 (subst (λ (b : ℕ). is_of_class c b ≡ true) same x.2) y.2
-
   -- ---- words
 
   pub word_longest : ReadsLongest (length line) 1 (Word line) (λ n. Begins (byte line WordPart) n ⊎ Begins (byte line Dollar) n) (word line)
@@ -53,7 +32,7 @@ module _ (line : List ℕ) where
 
       dollar_behind : (n : ℕ) → ⊥ ⊎ Begins (byte line WordPart) n → (a m : ℕ) → Byte line Dollar n a m → ⊥
       dollar_behind n (inl h) a m k = h
-      dollar_behind n (inr h) a m k = apart WordPart Dollar part_or_dollar n (begins_byte WordPart n h) (at_byte Dollar n a m k)
+      dollar_behind n (inr h) a m k = apart line WordPart Dollar part_or_dollar n (begins_byte line WordPart n h) (at_byte line Dollar n a m k)
 
       open_at : (n : ℕ) → (⊥ ⊎ Begins (byte line WordPart) n) ⊎ (⊥ ⊎ Begins (byte line Dollar) n) → Begins (byte line WordPart) n ⊎ Begins (byte line Dollar) n
       open_at n (inl (inl h)) = absurd h
@@ -73,10 +52,6 @@ module _ (line : List ℕ) where
 
   digit_at : (n : ℕ) → Begins (digits line) n → Begins (byte line Digit) n
   digit_at n h = let x = begun digits_longest n h in begins (byte_longest line Digit) n x.0.0 x.2.0 x.2.1
-
-  -- a class is not where the form of another class begins
-  never_both : (c d : ByteClass) → ((b : ℕ) → is_of_class c b ≡ true → is_of_class d b ≡ true → ⊥) → (n : ℕ) → Begins (byte line c) n → (a m : ℕ) → Byte line d n a m → ⊥
-  never_both c d never n h a m k = apart c d never n (begins_byte c n h) (at_byte d n a m k)
 
   digit_or_point : (b : ℕ) → is_of_class Digit b ≡ true → is_of_class Point b ≡ true → ⊥
   digit_or_point b h k = grind (arith, nat_tests)
@@ -107,7 +82,7 @@ module _ (line : List ℕ) where
 
   whole_longest : ReadsLongest (length line) 1 (Digits line perhaps (Byte line Point perhaps Digits line)) OpenMantissa (digits line maybe fraction line)
   whole_longest = weaker
-      (perhaps_longest digits_longest fraction_longest (omega arith) (λ n h b m k. never_both Digit Point digit_or_point n h b.0 k.0 k.1)) _ 1 open_at (omega arith)
+      (perhaps_longest digits_longest fraction_longest (omega arith) (λ n h b m k. never_both line Digit Point digit_or_point n h b.0 k.0 k.1)) _ 1 open_at (omega arith)
     where
       open_at : (n : ℕ) → Begins (byte line Digit) n ⊎ (Begins (byte line Digit) n ⊎ Begins (fraction line) n) → OpenMantissa n
       open_at n (inl h) = inl h
@@ -120,7 +95,7 @@ module _ (line : List ℕ) where
   mantissa_longest : ReadsLongest (length line) 1 (Mantissa line) OpenMantissa (mantissa line)
   mantissa_longest = weaker
       (either_longest (built_longest _ whole_longest) (built_longest _ bare_longest)
-      (λ n a k h b m g. apart Digit Point digit_or_point n (at_byte Digit n h.0.0.0 h.2.1.0 h.2.1.1) (at_byte Point n g.0.0 g.2.0 g.2.1))) _ 1 open_at (omega arith)
+      (λ n a k h b m g. apart line Digit Point digit_or_point n (at_byte line Digit n h.0.0.0 h.2.1.0 h.2.1.1) (at_byte line Point n g.0.0 g.2.0 g.2.1))) _ 1 open_at (omega arith)
     where
       open_at : (n : ℕ) → OpenMantissa n ⊎ OpenMantissa n → OpenMantissa n
       open_at n (inl h) = h
@@ -134,33 +109,15 @@ module _ (line : List ℕ) where
     where
       no_digits : (n : ℕ) → ⊥ ⊎ Begins (byte line PlusOrMinus) n → (b : ℕ × List ℕ) (m : ℕ) → Digits line n b m → ⊥
       no_digits n (inl h) b m k = h
-      no_digits n (inr h) b m k = never_both PlusOrMinus Digit sign_or_digit n h b.0 k.0 k.1
+      no_digits n (inr h) b m k = never_both line PlusOrMinus Digit sign_or_digit n h b.0 k.0 k.1
 
   pub numeral_longest : ReadsLongest (length line) 1 (Numeral line) (λ n. OpenMantissa n ⊎ (Begins (byte line Digit) n ⊎ Begins (exponent line) n)) (numeral line)
   numeral_longest = perhaps_longest mantissa_longest exponent_longest (omega arith) no_exponent
     where
       no_exponent : (n : ℕ) → OpenMantissa n → (b : ℕ × (Option ℕ × (ℕ × List ℕ))) (m : ℕ) →
           (Byte line LetterE then Optional (Byte line PlusOrMinus) then Digits line) n b m → ⊥
-      no_exponent n (inl h) b m k = never_both Digit LetterE digit_or_e n h b.0 k.0 k.1
-      no_exponent n (inr h) b m k = never_both Point LetterE point_or_e n h b.0 k.0 k.1
-
-  -- ---- quoted text
-
-  quotes_or_quote : (b : ℕ) → is_of_class InQuotes b ≡ true → is_of_class Quote b ≡ true → ⊥
-  quotes_or_quote b h k = grind (arith, nat_tests)
-
-  pub piece_longest : ReadsLongest (length line) 1 (Piece line) (λ _. ⊥) (piece line)
-  piece_longest = weaker
-      (then_longest (byte_longest line Quote)
-      (then_longest (repeated_longest (byte_longest line InQuotes) (omega arith) (λ n h a m k. h)) (byte_longest line Quote) no_quote)
-      (λ n h b m k. h)) _ 1 (λ n h. h) (omega arith)
-    where
-      no_quote : (n : ℕ) → ⊥ ⊎ Begins (byte line InQuotes) n → (a m : ℕ) → Byte line Quote n a m → ⊥
-      no_quote n (inl h) a m k = h
-      no_quote n (inr h) a m k = never_both InQuotes Quote quotes_or_quote n h a m k
-
-  pub quoted_longest : ReadsLongest (length line) 1 (Quoted line) (λ n. ⊥ ⊎ (⊥ ⊎ Begins (piece line) n)) (quoted line)
-  quoted_longest = repeating_longest piece_longest piece_longest (omega arith) (λ n h b m k. h) (λ n h b m k. h)
+      no_exponent n (inl h) b m k = never_both line Digit LetterE digit_or_e n h b.0 k.0 k.1
+      no_exponent n (inr h) b m k = never_both line Point LetterE point_or_e n h b.0 k.0 k.1
 
   -- ---- signs
 
@@ -173,10 +130,10 @@ module _ (line : List ℕ) where
       open_at n (inr (inr h)) = h
 
   pub at_pair : (first second : ByteClass) (n : ℕ) (u : Unit {0}) (next : ℕ) → Shape (Byte line first perhaps Byte line second) n u next → (b : ℕ) × (slice_get line n ≡ Some b) × (is_of_class first b ≡ true)
-  at_pair first second n u next h = at_byte first n h.0.0 h.2.0 h.2.1
+  at_pair first second n u next h = at_byte line first n h.0.0 h.2.0 h.2.1
 
   pub at_plain : (n : ℕ) (u : Unit {0}) (next : ℕ) → Shape (Byte line PlainSign) n u next → (b : ℕ) × (slice_get line n ≡ Some b) × (is_of_class PlainSign b ≡ true)
-  at_plain n u next h = at_byte PlainSign n h.0 next h.2
+  at_plain n u next h = at_byte line PlainSign n h.0 next h.2
 
   equal_or_greater : (b : ℕ) → is_of_class Equal b ≡ true → is_of_class Greater b ≡ true → ⊥
   equal_or_greater b h k = grind (arith, nat_tests)
@@ -197,17 +154,17 @@ module _ (line : List ℕ) where
       either_longest (built_longest _ (byte_longest line PlainSign))
       (either_longest (pair_longest Less EqualOrGreater)
       (either_longest (pair_longest Equal LessOrGreater) (pair_longest Greater LessOrEqual)
-      (λ n a k h b m g. apart Equal Greater equal_or_greater n (at_pair Equal LessOrGreater n a k h) (at_pair Greater LessOrEqual n b m g)))
+      (λ n a k h b m g. apart line Equal Greater equal_or_greater n (at_pair Equal LessOrGreater n a k h) (at_pair Greater LessOrEqual n b m g)))
       no_other)
       no_relation
     where
       no_other : (n : ℕ) (a : Unit {0}) (k : ℕ) → Shape (Byte line Less perhaps Byte line EqualOrGreater) n a k → (b : Unit {0}) (m : ℕ) →
           (Shape (Byte line Equal perhaps Byte line LessOrGreater) or Shape (Byte line Greater perhaps Byte line LessOrEqual)) n b m → ⊥
-      no_other n a k h b m (inl g) = apart Less Equal less_or_equal n (at_pair Less EqualOrGreater n a k h) (at_pair Equal LessOrGreater n b m g)
-      no_other n a k h b m (inr g) = apart Less Greater less_or_greater n (at_pair Less EqualOrGreater n a k h) (at_pair Greater LessOrEqual n b m g)
+      no_other n a k h b m (inl g) = apart line Less Equal less_or_equal n (at_pair Less EqualOrGreater n a k h) (at_pair Equal LessOrGreater n b m g)
+      no_other n a k h b m (inr g) = apart line Less Greater less_or_greater n (at_pair Less EqualOrGreater n a k h) (at_pair Greater LessOrEqual n b m g)
 
       no_relation : (n : ℕ) (a : Unit {0}) (k : ℕ) → Shape (Byte line PlainSign) n a k → (b : Unit {0}) (m : ℕ) →
           (Shape (Byte line Less perhaps Byte line EqualOrGreater) or Shape (Byte line Equal perhaps Byte line LessOrGreater) or Shape (Byte line Greater perhaps Byte line LessOrEqual)) n b m → ⊥
-      no_relation n a k h b m (inl g) = apart PlainSign Less (λ b x y. not_plain 60 b refl x y) n (at_plain n a k h) (at_pair Less EqualOrGreater n b m g)
-      no_relation n a k h b m (inr (inl g)) = apart PlainSign Equal (λ b x y. not_plain 61 b refl x y) n (at_plain n a k h) (at_pair Equal LessOrGreater n b m g)
-      no_relation n a k h b m (inr (inr g)) = apart PlainSign Greater (λ b x y. not_plain 62 b refl x y) n (at_plain n a k h) (at_pair Greater LessOrEqual n b m g)
+      no_relation n a k h b m (inl g) = apart line PlainSign Less (λ b x y. not_plain 60 b refl x y) n (at_plain n a k h) (at_pair Less EqualOrGreater n b m g)
+      no_relation n a k h b m (inr (inl g)) = apart line PlainSign Equal (λ b x y. not_plain 61 b refl x y) n (at_plain n a k h) (at_pair Equal LessOrGreater n b m g)
+      no_relation n a k h b m (inr (inr g)) = apart line PlainSign Greater (λ b x y. not_plain 62 b refl x y) n (at_plain n a k h) (at_pair Greater LessOrEqual n b m g)

@@ -12,10 +12,13 @@ use Rattle.bas_token.specs.declared.token.Token.{Token}
 use Rattle.bas_form.specs.declared.byte_class.ByteClass.{ByteClass}
 use Rattle.bas_form.specs.declared.byte_class.ByteClass.TheVariants.{Space, Letter, Digit, Point, Quote, PlainSign, Less, Equal, Greater, EqualOrGreater, LessOrGreater, LessOrEqual, ExclamationMark, LetterR}
 use Rattle.bas_form.specs.Bytes.{is_of_class, Byte}
-use Rattle.bas_token.specs.Lexical.{Shape, FirstRem, Word, Mantissa, Numeral, Quoted, Sign, Remark}
+use Rattle.bas_token.specs.Lexical.{Shape, FirstRem, Word, Mantissa, Numeral, Sign, Remark}
+use Rattle.bas_form.specs.Quoted.{Quoted}
 use Rattle.bas_token.specs.Tokens.{Stands, StandsAs, IsToken, OneToken}
 use Rattle.bas_token.specs.Reading as reading
-use Rattle.bas_token.proofs.ShapeLaws.{at_byte, at_plain, at_pair, word_longest, numeral_longest, quoted_longest, sign_longest}
+use Rattle.bas_form.proofs.ByteLaws.{at_byte}
+use Rattle.bas_form.proofs.QuotedLaws.{quoted_longest}
+use Rattle.bas_token.proofs.ShapeLaws.{at_plain, at_pair, word_longest, numeral_longest, sign_longest}
 use Rattle.bas_token.proofs.RemarkLaws.{remark_longest, at_rem, slice_get_none}
 use Rattle.bas_token.proofs.EndsOfShapes.{word_ends, numeral_ends, quoted_ends, sign_ends, remark_ends}
 

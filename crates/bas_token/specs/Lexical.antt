@@ -26,14 +26,6 @@ module _ (line : List ℕ) where
   abbrev pub Numeral : Form (Unit {0} × Option (ℕ × (Option ℕ × (ℕ × List ℕ))))
   Numeral = Mantissa perhaps (Byte line LetterE then Optional (Byte line PlusOrMinus) then Digits)
 
-  -- piece = quote { byte but a quote } quote
-  abbrev pub Piece : Form (ℕ × (List ℕ × ℕ))
-  Piece = Byte line Quote then Repeated (Byte line InQuotes) then Byte line Quote
-
-  -- quoted = piece { piece }: where two pieces meet, their two quotes stand for one
-  abbrev pub Quoted : Form ((ℕ × (List ℕ × ℕ)) × List (ℕ × (List ℕ × ℕ)))
-  Quoted = Piece repeating Piece
-
   -- sign = plain sign | "<" [ "=" | ">" ] | "=" [ "<" | ">" ] | ">" [ "<" | "=" ]
   abbrev pub Sign : Form (Unit {0})
   Sign = Shape (Byte line PlainSign)

@@ -30,12 +30,6 @@ module _ (line : List ℕ) where
   abbrev pub numeral : Reader (Unit {0} × Option (ℕ × (Option ℕ × (ℕ × List ℕ))))
   numeral = mantissa maybe exponent
 
-  abbrev pub piece : Reader (ℕ × (List ℕ × ℕ))
-  piece = byte line Quote followed_by all_of (byte line InQuotes) followed_by byte line Quote
-
-  abbrev pub quoted : Reader ((ℕ × (List ℕ × ℕ)) × List (ℕ × (List ℕ × ℕ)))
-  quoted = piece followed_by all_of piece
-
   abbrev pub sign : Reader (Unit {0})
   sign =
       either (shape (byte line PlainSign))

@@ -8,7 +8,7 @@ use Rattle.bas_token.specs.declared.token.Token.{Token}
 use Rattle.bas_form.specs.declared.byte_class.ByteClass.{ByteClass}
 use Rattle.bas_form.specs.declared.byte_class.ByteClass.TheVariants.{Space, Letter, WordPart, Dollar, Digit, Point, LetterE, PlusOrMinus, Quote, InQuotes, PlainSign, Less, Equal, Greater, EqualOrGreater, LessOrGreater, LessOrEqual, ExclamationMark, LetterR, LetterM, InRemark}
 use Rattle.bas_form.specs.Bytes.{byte_end, past}
-use Rattle.bas_token.specs.Readers.{piece}
+use Rattle.bas_form.specs.Quoted.{piece, piece_end}
 
 -- nothing, where no such byte stands
 abbrev pub unless_byte : Option ℕ → ℕ → Option ℕ
@@ -60,18 +60,13 @@ module _ (line : List ℕ) where
     mantissa ← mantissa_end at
     Some (unwrap_or (exponent_end mantissa) mantissa)
 
-  unfoldable pub piece_end : ℕ → Option ℕ
-  piece_end at = do
-    quote ← byte_end line Quote at
-    byte_end line Quote (past line InQuotes quote)
-
   -- behind all pieces of a quoted text
   unfoldable pub pieces_past : ℕ → ℕ
   pieces_past at = (all_from (piece line) (length line) at).1
 
   unfoldable pub quoted_end : ℕ → Option ℕ
   quoted_end at = do
-    first ← piece_end at
+    first ← piece_end line at
     Some (pieces_past first)
 
   -- one byte and perhaps another

@@ -6,7 +6,8 @@ use Rattle.bas_token.specs.declared.token.TokenKind.TheVariants as kind
 use Rattle.bas_token.specs.declared.token.Token.{Token}
 use Rattle.bas_form.specs.declared.byte_class.ByteClass.TheVariants.{Space}
 use Rattle.bas_form.specs.Bytes.{Byte}
-use Rattle.bas_token.specs.Lexical.{Word, Numeral, Quoted, Sign, Remark}
+use Rattle.bas_token.specs.Lexical.{Word, Numeral, Sign, Remark}
+use Rattle.bas_form.specs.Quoted.{Quoted}
 
 -- the form stands from the one place up to the other
 abbrev pub Stands : {A : Type 0} → Form A → ℕ → ℕ → Type 0

@@ -5,7 +5,7 @@ ghost use Rattle.bas_form.specs.Bytes as bytes;
 ghost use Rattle.bas_token.specs.Reading as reading;
 ghost use Rattle.bas_form.specs.declared.byte_class.ByteClass.TheVariants.{Space};
 
-use bas_form::{ByteClass, byte_end, past};
+use bas_form::{ByteClass, byte_end, past, piece_end};
 
 #[tactic(auto, unfolding(crate::specs::Reading::word_end))]
 pub(crate) fn word_end(line: &[u8], at: usize) -> Option<usize>
@@ -89,20 +89,6 @@ pub(crate) fn numeral_end(line: &[u8], at: usize) -> Option<usize>
 {
     let mantissa = mantissa_end(line, at)?;
     Some(exponent_end(line, mantissa).unwrap_or(mantissa))
-}
-
-#[tactic(auto, unfolding(crate::specs::Reading::piece_end))]
-fn piece_end(line: &[u8], at: usize) -> Option<usize>
-    ensures value { result ≡ reading.piece_end line.now at }
-    ensures within { IfSome result (λ next. next ≤ length line.now) }
-    ensures grows { IfSome result (λ next. at < next) }
-{
-    let quote = byte_end(line, at, ByteClass::Quote)?;
-    byte_end(
-        line,
-        past(line, quote, ByteClass::InQuotes),
-        ByteClass::Quote,
-    )
 }
 
 fn pieces_past(line: &[u8], from: usize) -> usize
