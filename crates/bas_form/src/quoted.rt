@@ -1,6 +1,6 @@
 //! Text in quotes.
 
-ghost use Rattle.std.specs.Prelude.{◌≡◌, ◌≤◌, ◌<◌, length, IfSome};
+ghost use Rattle.std.specs.Prelude.{◌≡◌, ◌+◌, ◌≤◌, ◌<◌, length, IfSome};
 ghost use Rattle.bas_form.specs.Quoted as quoted;
 
 use crate::byte_class::ByteClass;
@@ -11,7 +11,7 @@ use crate::scan::{byte_end, past};
 pub fn piece_end(text: &[u8], at: usize) -> Option<usize>
     ensures value { result ≡ quoted.piece_end text.now at }
     ensures within { IfSome result (λ next. next ≤ length text.now) }
-    ensures grows { IfSome result (λ next. at < next) }
+    ensures grows { IfSome result (λ next. at + 1 < next) }
 {
     let quote = byte_end(text, at, ByteClass::Quote)?;
     byte_end(

@@ -1,2 +1,3 @@
 pub mod DataLaws
 pub mod TrimLaws
+pub mod PieceLaws

@@ -1,5 +1,5 @@
 -- The items of a list of data.
-use Rattle.std.specs.Prelude.{◌≡◌, ℕ, ◌≤◌, Bool, true, false, List, [], ◌∷◌, length, map, All, Option, Some, None, slice_get}
+use Rattle.std.specs.Prelude.{◌≡◌, ℕ, ◌<◌, ◌≤◌, Bool, true, false, List, [], ◌∷◌, length, map, All, Option, Some, None, slice_get}
 use Rattle.bas_form.specs.Form.{Form, ◌then◌, Optional, Repeated, ◌or◌, NotAhead, Built, ◌repeating◌}
 use Rattle.bas_form.specs.Reader.{Reader, ◌followed_by◌, optional, repeated, either, built}
 use Rattle.bas_form.specs.declared.byte_class.ByteClass.TheVariants.{Space, Comma, DataStart, DataPart}
@@ -64,3 +64,7 @@ module _ (text : List ℕ) where
 
   unfoldable pub next_item : Reader Datum
   next_item = built (λ (behind : ℕ × Datum). behind.1) (byte text Comma followed_by item)
+
+  -- the item there is too long for a string
+  abbrev pub IsLongItem : ℕ → Type 0
+  IsLongItem at = (d : Datum) × (end : ℕ) × (item at ≡ Some (d, end)) × (MAX_STRING_LEN < length d.text)

@@ -1,11 +1,12 @@
 //! The items of a list of data.
 
-ghost use Rattle.std.specs.Prelude.{◌≡◌, ℕ, ◌+◌, ◌≤◌, ◌<◌, ◌++◌, ◌∷◌, List, map, length, All, IfOk, IfSome, MatchOption, OnOk, OnErr};
+ghost use Rattle.std.specs.Prelude.{◌≡◌, ℕ, ◌+◌, ◌≤◌, ◌<◌, ◌++◌, ◌∷◌, List, map, length, All, IfOk, IfSome, IfNone, MatchOption, OnOk, OnErr};
 ghost use Rattle.std.specs.Option.{option_map};
 ghost use Rattle.bas_text.specs.Trim.{as_space, trim_right, between};
 ghost use Rattle.bas_text.specs.Reading as reading;
+ghost use Rattle.bas_text.specs.DataItems.{datum, item, IsLongItem};
 
-use crate::byte_string::StrVal;
+use crate::byte_string::{MAX_STRING_LEN, StrVal};
 use bas_form::{ByteClass, byte_end, past, piece_end};
 use std::alloc::{AllocError, Global};
 
@@ -49,4 +50,85 @@ fn trimmed_end(text: &[u8], from: usize, to: usize) -> usize
         end -= 1;
     }
     end
+}
+
+/// Puts what the pieces of quoted text from a place on stand for behind `out`, with the quotes
+/// between them, and answers the place after the pieces.
+fn copy_pieces(text: &[u8], from: usize, out: &mut Vec<u8>) -> Result<usize, AllocError>
+    requires { from ≤ length text.now }
+    ensures copied { OnOk result (out.new.items ≡ out.old.items ++ reading.more_bytes text.now from) }
+    ensures value { IfOk result (λ end. end ≡ reading.pieces_past text.now from) }
+    ensures within { IfOk result (λ end. end ≤ length text.now) }
+{
+    let mut at = from;
+    while let Some(end) = piece_end(text, at) {
+        copy_bytes(text, at, end - 1, out)?;
+        at = end;
+    }
+    Ok(at)
+}
+
+/// What the quoted text at a place stands for, and the place after it.
+fn quoted_text(
+    alloc: Global,
+    text: &[u8],
+    at: usize,
+) -> Result<Option<(Vec<u8>, usize)>, AllocError>
+    ensures value { IfOk result (λ found. MatchOption found (reading.quoted_text text.now at ≡ None) (λ f. reading.quoted_text text.now at ≡ Some (f.0.items, f.1))) }
+    ensures within { IfOk result (λ found. IfSome found (λ f. f.1 ≤ length text.now)) }
+{
+    let Some(first) = piece_end(text, at) else {
+        return Ok(None);
+    };
+    let mut out = Vec::new(alloc);
+    copy_bytes(text, at + 1, first - 1, &mut out)?;
+    let end = copy_pieces(text, first, &mut out)?;
+    Ok(Some((out, end)))
+}
+
+/// The bytes of the item at a place.
+#[derive(Drop)]
+struct Written {
+    quoted: bool,
+    bytes: Vec<u8>,
+    end: usize,
+}
+
+/// The item at a place.
+fn written_item(alloc: Global, text: &[u8], at: usize) -> Result<Written, AllocError>
+    requires { at ≤ length text.now }
+    ensures value { IfOk result (λ w. item text.now at ≡ Some (datum w.quoted w.bytes.items, w.end)) }
+    ensures within { IfOk result (λ w. w.end ≤ length text.now) }
+{
+    let from = past(text, at, ByteClass::Space);
+    if let Some((bytes, end)) = quoted_text(alloc, text, from)? {
+        return Ok(Written {
+            quoted: true,
+            bytes,
+            end: past(text, end, ByteClass::Space),
+        });
+    }
+    let end = past(text, from, ByteClass::DataPart);
+    let mut bytes = Vec::new(alloc);
+    copy_bytes(text, from, trimmed_end(text, from, end), &mut bytes)?;
+    Ok(Written {
+        quoted: false,
+        bytes,
+        end,
+    })
+}
+
+/// The datum at a place and the place after it, or nothing where the item is too long for a string.
+fn datum_at(alloc: Global, text: &[u8], at: usize) -> Result<Option<(Datum, usize)>, AllocError>
+    requires { at ≤ length text.now }
+    ensures found { IfOk result (λ found. IfSome found (λ f. item text.now at ≡ Some f)) }
+    ensures short { IfOk result (λ found. IfSome found (λ f. length f.0.text ≤ MAX_STRING_LEN)) }
+    ensures long { IfOk result (λ found. IfNone found (IsLongItem text.now at)) }
+    ensures within { IfOk result (λ found. IfSome found (λ f. f.1 ≤ length text.now)) }
+{
+    let Written { quoted, bytes, end } = written_item(alloc, text, at)?;
+    match StrVal::from_vec(bytes) {
+        Some(text) => Ok(Some((Datum { quoted, text }, end))),
+        None => Ok(None),
+    }
 }
