@@ -93,7 +93,7 @@ module _ {A : Type 0} (len : ℕ) (element : ℕ → Option A) (inside : (n : �
 -- ---- a form or nothing
 
 module _ {A : Type 0} {len least : ℕ} {F : Form A} {GoesOn : ℕ → Type 0} {f : Reader A} (is : ReadsLongest len least F GoesOn f) (takes : 1 ≤ least) where
-  optional_of : (at : ℕ) (o : Option (A × ℕ)) → f at ≡ o → optional f at ≡ Some (optional_at at o)
+  pub optional_of : (at : ℕ) (o : Option (A × ℕ)) → f at ≡ o → optional f at ≡ Some (optional_at at o)
   unfolding optional
   optional_of at o e = rw e refl
 

@@ -29,7 +29,7 @@ module _ (text : List ℕ) where
       by_test true e h = known_part 32 b e refl
       by_test false e h = known_part 9 b (let f = rw e at h in f) refl
 
-  start_part : (b : ℕ) → is_of_class DataStart b ≡ true → is_of_class DataPart b ≡ true
+  pub start_part : (b : ℕ) → is_of_class DataStart b ≡ true → is_of_class DataPart b ≡ true
   start_part b h = by_test (is_unquoted b) refl h
     where
       by_test : (t : Bool) → is_unquoted b ≡ t → is_of_class DataStart b ≡ true → is_of_class DataPart b ≡ true
@@ -73,7 +73,7 @@ module _ (text : List ℕ) where
   no_space_behind n h [] m k = (k, inl h, spaces_read)
   no_space_behind n h (s ∷ ss) m k = absurd (never_both text Quote Space quote_or_space n h s k.0 k.1)
 
-  quoted_item_longest : ReadsLongest (length text) 1 (Quoted text then Spaces text) GoesItem (quoted text followed_by spaces text)
+  pub quoted_item_longest : ReadsLongest (length text) 1 (Quoted text then Spaces text) GoesItem (quoted text followed_by spaces text)
   quoted_item_longest = weaker (then_open (quoted_longest text) spaces_longest GoesItem space_goes behind) GoesItem 1 (λ n h. h) (omega arith)
     where
       behind : (n : ℕ) → ⊥ ⊎ (⊥ ⊎ Begins (piece text) n) → (ss : List ℕ) (m : ℕ) → Spaces text n ss m → (m ≡ n) × GoesItem n × AlwaysReads (spaces text)
@@ -89,7 +89,7 @@ module _ (text : List ℕ) where
       open_at n (inr (inl h)) = absurd h
       open_at n (inr (inr h)) = inr h
 
-  core_longest : ReadsLongest (length text) 1 (Core text) GoesItem (core text)
+  pub core_longest : ReadsLongest (length text) 1 (Core text) GoesItem (core text)
   core_longest = weaker
       (either_longest (built_longest quoted_datum quoted_item_longest) (built_longest plain_datum plain_longest)
       (λ n a k h b m g. apart text Quote DataStart quote_or_start n (at_byte text Quote n h.0.0.0.0 h.2.1.1.0 h.2.1.1.1) (at_byte text DataStart n g.0.0 g.2.0 g.2.1))) GoesItem 1 open_at (omega arith)
@@ -109,9 +109,8 @@ module _ (text : List ℕ) where
   no_core_at_space n h d m (inl k) = apart text Quote Space quote_or_space n (at_byte text Quote n k.0.0.0.0 k.2.1.1.0 k.2.1.1.1) (begins_byte text Space n h)
   no_core_at_space n h d m (inr k) = apart text Space DataStart space_or_start n (begins_byte text Space n h) (at_byte text DataStart n k.0.0 k.2.0 k.2.1)
 
-  pub item_longest : ReadsLongest (length text) 0 (Item text) GoesItem (item text)
-  unfolding item
-  item_longest = built_longest item_datum (then_open spaces_longest (optional_longest core_longest (omega arith)) GoesItem more behind)
+  pub parts_longest : ReadsLongest (length text) 0 (Spaces text then Optional (Core text)) GoesItem (spaces text followed_by optional (core text))
+  parts_longest = then_open spaces_longest (optional_longest core_longest (omega arith)) GoesItem more behind
     where
       more : (n : ℕ) → GoesItem n ⊎ Begins (core text) n → GoesItem n
       more n (inl h) = h
@@ -121,6 +120,10 @@ module _ (text : List ℕ) where
       behind n (inl h) b m k = absurd h
       behind n (inr h) None m k = (k, inr (wider Space DataPart space_part n h), optional_reads core_longest (omega arith))
       behind n (inr h) (Some d) m k = absurd (no_core_at_space n h d m k)
+
+  pub item_longest : ReadsLongest (length text) 0 (Item text) GoesItem (item text)
+  unfolding item
+  item_longest = built_longest item_datum parts_longest
 
   no_comma : (n : ℕ) → GoesItem n → (a m : ℕ) → Byte text Comma n a m → ⊥
   no_comma n (inl h) a m k = never_both text Quote Comma quote_or_comma n h a m k

@@ -1,3 +1,4 @@
 pub mod DataLaws
 pub mod TrimLaws
 pub mod PieceLaws
+pub mod ItemLaws

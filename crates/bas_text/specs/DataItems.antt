@@ -1,7 +1,7 @@
 -- The items of a list of data.
-use Rattle.std.specs.Prelude.{◌≡◌, ℕ, ◌<◌, ◌≤◌, Bool, true, false, List, [], ◌∷◌, length, map, All, Option, Some, None, slice_get}
+use Rattle.std.specs.Prelude.{◌≡◌, ℕ, ◌<◌, ◌≤◌, Bool, true, false, List, [], ◌∷◌, ◌++◌, length, map, All, Option, Some, None, slice_get}
 use Rattle.bas_form.specs.Form.{Form, ◌then◌, Optional, Repeated, ◌or◌, NotAhead, Built, ◌repeating◌}
-use Rattle.bas_form.specs.Reader.{Reader, ◌followed_by◌, optional, repeated, either, built}
+use Rattle.bas_form.specs.Reader.{Reader, ◌followed_by◌, optional, repeated, either, built, all_from}
 use Rattle.bas_form.specs.declared.byte_class.ByteClass.TheVariants.{Space, Comma, DataStart, DataPart}
 use Rattle.bas_form.specs.Bytes.{Byte, byte}
 use Rattle.bas_form.specs.Quoted.{Quoted, quoted, quoted_bytes}
@@ -68,3 +68,14 @@ module _ (text : List ℕ) where
   -- the item there is too long for a string
   abbrev pub IsLongItem : ℕ → Type 0
   IsLongItem at = (d : Datum) × (end : ℕ) × (item at ≡ Some (d, end)) × (MAX_STRING_LEN < length d.text)
+
+  -- all items behind commas are read, and each is short enough for a string
+  pub record ReadsMore (from : ℕ) (old new : List Datum) (stop : ℕ) : Type 0 where
+    pub items : new ≡ old ++ (all_from next_item (length text) from).0
+    pub end : stop ≡ (all_from next_item (length text) from).1
+    pub short : All (λ d. length d.text ≤ MAX_STRING_LEN) (all_from next_item (length text) from).0
+    pub within : stop ≤ length text
+
+-- one of the items is too long for a string
+abbrev pub HasLong : List Datum → Type 0
+HasLong items = All (λ d. length d.text ≤ MAX_STRING_LEN) items → ⊥

@@ -4,7 +4,9 @@ ghost use Rattle.std.specs.Prelude.{◌≡◌, ℕ, ◌+◌, ◌≤◌, ◌<◌,
 ghost use Rattle.std.specs.Option.{option_map};
 ghost use Rattle.bas_text.specs.Trim.{as_space, trim_right, between};
 ghost use Rattle.bas_text.specs.Reading as reading;
-ghost use Rattle.bas_text.specs.DataItems.{datum, item, IsLongItem};
+ghost use Rattle.bas_text.specs.DataItems.{datum, item, next_item, AreItems, IsLongItem, ReadsMore, HasLong};
+ghost use Rattle.bas_form.specs.Reader.{all_from};
+ghost use Rattle.bas_text.specs.declared.data_list.Datum.{Datum};
 
 use crate::byte_string::{MAX_STRING_LEN, StrVal};
 use bas_form::{ByteClass, byte_end, past, piece_end};
@@ -130,5 +132,52 @@ fn datum_at(alloc: Global, text: &[u8], at: usize) -> Result<Option<(Datum, usiz
     match StrVal::from_vec(bytes) {
         Some(text) => Ok(Some((Datum { quoted, text }, end))),
         None => Ok(None),
+    }
+}
+
+/// Puts the items behind commas from a place on behind `items`, and answers the place after them, or
+/// nothing where one is too long for a string.
+fn more_items(
+    alloc: Global,
+    text: &[u8],
+    from: usize,
+    items: &mut Vec<Datum>,
+) -> Result<Option<usize>, AllocError>
+    requires { from ≤ length text.now }
+    ensures found { IfOk result (λ found. IfSome found (λ end. ReadsMore text.now from items.old.items items.new.items end)) }
+    ensures long { IfOk result (λ found. IfNone found (HasLong (all_from (next_item text.now) (length text.now) from).0)) }
+{
+    let mut at = from;
+    while let Some(start) = byte_end(text, at, ByteClass::Comma) {
+        let Some((datum, end)) = datum_at(alloc, text, start)? else {
+            return Ok(None);
+        };
+        items.push(datum)?;
+        at = end;
+    }
+    Ok(Some(at))
+}
+
+/// The items of a list of data: what stands between commas, without spaces around it. An item in quotes
+/// has a quote for each doubled one; one without has no quote, and no byte of 128 to 255. `None` comes
+/// exactly where the text is no such list of strings.
+pub fn data_items(alloc: Global, text: &[u8]) -> Result<Option<Vec<Datum>>, AllocError>
+    ensures found { IfOk result (λ found. IfSome found (λ items. AreItems text.now items.items)) }
+
+    // No other list of items is the text's, and where there is one it is answered.
+    ensures only { (items : List Datum) → AreItems text.now items → IfOk result (λ found. MatchOption found ⊥ (λ f. f.items ≡ items)) }
+{
+    let Some((first, next)) = datum_at(alloc, text, 0)? else {
+        return Ok(None);
+    };
+    let mut items = Vec::new(alloc);
+    items.push(first)?;
+    let Some(end) = more_items(alloc, text, next, &mut items)? else {
+        return Ok(None);
+    };
+    if end == text.len() {
+        Ok(Some(items))
+    } else {
+        Ok(None)
     }
 }
