@@ -1,8 +1,7 @@
 -- What one byte of a class reads as, and all bytes of a class.
-use Rattle.std.proofs.Common.{◌≡◌, ℕ, ◌+◌, ◌<◌, ◌≤◌, Bool, true, false, List, length, get_or, Option, Some, None, slice_get, refl, sym, ap, ◌∙◌, subst, arith}
+use Rattle.std.proofs.Common.{◌≡◌, ℕ, ◌+◌, ◌<◌, ◌≤◌, Bool, true, false, List, length, get_or, Some, None, slice_get, refl, sym, ap, ◌∙◌, subst, arith}
 use Rattle.std.proofs.lemmas.Option.{slice_get-get_or, slice_get_past}
-use Rattle.bas_form.specs.Form.{Form}
-use Rattle.bas_form.specs.Reader.{Reader, terminal, end_of, all_from, ReadsLongest, Begins}
+use Rattle.bas_form.specs.Reader.{terminal, end_of, all_from, ReadsLongest, Begins}
 use Rattle.bas_form.specs.Element.{element_at}
 use Rattle.bas_form.proofs.ReaderLaws.{terminal_longest, begun}
 use Rattle.bas_form.proofs.RepetitionLaws.{all_on, all_end, all_sound, repeated_longest}

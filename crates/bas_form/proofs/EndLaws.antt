@@ -1,5 +1,5 @@
 -- Where what is read ends follows from where its parts end.
-use Rattle.std.proofs.Common.{◌≡◌, ℕ, ◌+◌, List, [], ◌∷◌, Option, Some, None, refl, sym, ap, ◌∙◌}
+use Rattle.std.proofs.Common.{◌≡◌, ℕ, ◌+◌, Option, Some, None, refl, ap, ◌∙◌}
 use Rattle.std.specs.Prelude.{unwrap_or}
 use Rattle.bas_form.specs.Reader.{Reader, ◌>>=◌, terminal, both, ◌followed_by◌, optional, optional_at, first_of, either, not_ahead, not_ahead_at, built, repeated, all_from, end_of, ◌maybe◌}
 

@@ -1,9 +1,7 @@
 -- The readers of text in quotes take the longest.
-use Rattle.std.proofs.Common.{◌≡◌, ℕ, ◌+◌, ◌<◌, ◌≤◌, ◌⊎◌, inl, inr, Bool, true, false, not, List, [], ◌∷◌, length, Option, Some, None, refl, sym, ap, ◌∙◌, subst, arith}
+use Rattle.std.proofs.Common.{◌≡◌, ℕ, ◌⊎◌, inl, inr, true, List, length, sym, ◌∙◌, arith}
 use Rattle.std.proofs.lemmas.Bool.Decides.{nat_tests}
-use Rattle.bas_form.specs.Form.{Form, ◌then◌, Repeated, ◌repeating◌}
-use Rattle.bas_form.specs.Reader.{Reader, ◌>>=◌, ◌followed_by◌, repeated, all_from, end_of, ReadsLongest, Begins}
-use Rattle.bas_form.specs.declared.byte_class.ByteClass.{ByteClass}
+use Rattle.bas_form.specs.Reader.{◌followed_by◌, repeated, end_of, ReadsLongest, Begins}
 use Rattle.bas_form.specs.declared.byte_class.ByteClass.TheVariants.{Quote, InQuotes}
 use Rattle.bas_form.specs.Bytes.{is_of_class, Byte, byte, byte_end, past}
 use Rattle.bas_form.specs.Quoted.{Piece, Quoted, piece, quoted, piece_end}

@@ -1,5 +1,5 @@
 -- Text in quotes: a quote, bytes, and a quote, where two quotes inside stand for one.
-use Rattle.std.specs.Prelude.{◌≡◌, ℕ, List, length, Option, Some, None, ◌++◌, ◌∷◌, flat_map}
+use Rattle.std.specs.Prelude.{ℕ, List, length, Option, ◌++◌, ◌∷◌, flat_map}
 use Rattle.bas_form.specs.Form.{Form, ◌then◌, Repeated, ◌repeating◌}
 use Rattle.bas_form.specs.Reader.{Reader, ◌>>=◌, ◌followed_by◌, repeated}
 use Rattle.bas_form.specs.declared.byte_class.ByteClass.TheVariants.{Quote, InQuotes}

@@ -1,15 +1,15 @@
 -- The readers of items take the longest.
-use Rattle.std.proofs.Common.{◌≡◌, ℕ, ◌+◌, ◌<◌, ◌≤◌, ◌⊎◌, inl, inr, ◌==◌, Bool, true, false, not, List, [], ◌∷◌, length, map, Option, Some, None, slice_get, refl, sym, ap, ◌∙◌, subst, arith, eqb-true}
+use Rattle.std.proofs.Common.{◌≡◌, ℕ, ◌⊎◌, inl, inr, ◌==◌, Bool, true, false, List, [], ◌∷◌, length, Option, Some, None, slice_get, refl, sym, ◌∙◌, subst, arith, eqb-true}
 use Rattle.std.proofs.lemmas.Bool.Decides.{nat_tests}
-use Rattle.bas_form.specs.Form.{Form, ◌then◌, Optional, Repeated, ◌or◌, NotAhead, Built, ◌repeating◌}
-use Rattle.bas_form.specs.Reader.{Reader, ◌followed_by◌, optional, repeated, either, built, ReadsLongest, Begins, AlwaysReads}
-use Rattle.bas_form.proofs.ReaderLaws.{some_is, begun, begins, weaker, optional_longest, optional_reads, either_longest, built_longest, not_ahead_longest}
+use Rattle.bas_form.specs.Form.{◌then◌, Optional, ◌repeating◌}
+use Rattle.bas_form.specs.Reader.{◌followed_by◌, optional, repeated, ReadsLongest, Begins, AlwaysReads}
+use Rattle.bas_form.proofs.ReaderLaws.{some_is, begun, begins, weaker, optional_longest, optional_reads, either_longest, built_longest}
 use Rattle.bas_form.proofs.SequenceLaws.{then_open, then_longest}
 use Rattle.bas_form.proofs.RepetitionLaws.{repeated_longest, repeated_reads, repeating_longest}
 use Rattle.bas_form.specs.declared.byte_class.ByteClass.{ByteClass}
 use Rattle.bas_form.specs.declared.byte_class.ByteClass.TheVariants.{Space, Quote, Comma, DataStart, DataPart}
 use Rattle.bas_form.specs.Bytes.{is_of_class, is_unquoted, Byte, byte}
-use Rattle.bas_form.specs.Quoted.{Piece, Quoted, piece, quoted}
+use Rattle.bas_form.specs.Quoted.{Quoted, piece, quoted}
 use Rattle.bas_form.proofs.ByteLaws.{byte_longest, byte_found, at_byte, begins_byte, apart, never_both}
 use Rattle.bas_form.proofs.QuotedLaws.{piece_longest, quoted_longest}
 use Rattle.bas_text.specs.declared.data_list.Datum.{Datum}
@@ -129,11 +129,14 @@ module _ (text : List ℕ) where
   no_comma n (inl h) a m k = never_both text Quote Comma quote_or_comma n h a m k
   no_comma n (inr h) a m k = never_both text DataPart Comma part_or_comma n h a m k
 
+  pub next_parts : ReadsLongest (length text) 1 (Byte text Comma then Item text) GoesItem (byte text Comma followed_by item text)
+  next_parts = then_longest (byte_longest text Comma) item_longest (λ n h b m k. h)
+
   pub next_longest : ReadsLongest (length text) 1 (NextItem text) GoesItem (next_item text)
   unfolding next_item
-  next_longest = built_longest _ (then_longest (byte_longest text Comma) item_longest (λ n h b m k. h))
+  next_longest = built_longest _ next_parts
 
-  no_next : (n : ℕ) → GoesItem n → (d : Datum) (m : ℕ) → NextItem text n d m → ⊥
+  pub no_next : (n : ℕ) → GoesItem n → (d : Datum) (m : ℕ) → NextItem text n d m → ⊥
   no_next n h d m k = no_comma n h k.0.0 k.2.0 k.2.1
 
   pub list_longest : ReadsLongest (length text) 0 (Item text repeating NextItem text) (λ n. GoesItem n ⊎ (GoesItem n ⊎ Begins (next_item text) n)) (item text followed_by repeated (next_item text) (length text))
@@ -144,7 +147,7 @@ module _ (text : List ℕ) where
   goes_inside n (inl h) e = let x = begins_byte text Quote n h in absurd (let both : Some x.0 ≡ None = sym x.1 ∙ e in cc)
   goes_inside n (inr h) e = let x = begins_byte text DataPart n h in absurd (let both : Some x.0 ≡ None = sym x.1 ∙ e in cc)
 
-  list_ends : (n : ℕ) → GoesItem n ⊎ (GoesItem n ⊎ Begins (next_item text) n) → slice_get text n ≡ None → ⊥
+  pub list_ends : (n : ℕ) → GoesItem n ⊎ (GoesItem n ⊎ Begins (next_item text) n) → slice_get text n ≡ None → ⊥
   list_ends n (inl h) e = goes_inside n h e
   list_ends n (inr (inl h)) e = goes_inside n h e
   list_ends n (inr (inr h)) e =

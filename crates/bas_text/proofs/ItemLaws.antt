@@ -1,8 +1,8 @@
 -- What the item at a place is, with and without quotes.
-use Rattle.std.proofs.Common.{◌≡◌, ℕ, ◌+◌, ◌-◌, ◌<◌, ◌≤◌, ◌⊎◌, inl, inr, ◌==◌, ◌&&◌, ◌||◌, not, Bool, true, false, cond, List, [], ◌∷◌, ◌++◌, length, map, get_or, Option, Some, None, slice_get, refl, sym, ap, ◌∙◌, subst, arith}
-use Rattle.std.proofs.lemmas.Option.{slice_get_past, slice_get_cases}
-use Rattle.bas_form.specs.Form.{Form, Repeated}
-use Rattle.bas_form.specs.Reader.{Reader, ◌>>=◌, both, ◌followed_by◌, optional, optional_at, repeated, either, built, all_from, ReadsLongest, Begins}
+use Rattle.std.proofs.Common.{◌≡◌, ℕ, ◌+◌, ◌≤◌, ◌⊎◌, inl, inr, ◌==◌, ◌&&◌, ◌||◌, not, Bool, true, false, List, length, map, Option, Some, None, slice_get, refl, sym, ap, ◌∙◌, arith}
+use Rattle.std.proofs.lemmas.Option.{slice_get_cases}
+use Rattle.bas_form.specs.Form.{Repeated}
+use Rattle.bas_form.specs.Reader.{Reader, ◌>>=◌, both, ◌followed_by◌, optional_at, repeated, either, built, all_from, ReadsLongest, Begins}
 use Rattle.bas_form.proofs.ReaderLaws.{same_some, bound, built_of, optional_of, optional_longest}
 use Rattle.bas_form.proofs.SequenceLaws.{both_of}
 use Rattle.bas_form.proofs.RepetitionLaws.{all_on, all_end, all_sound, all_stops, repeated_longest}
@@ -16,7 +16,6 @@ use Rattle.bas_text.specs.declared.data_list.Datum.{Datum}
 use Rattle.bas_text.specs.Trim.{as_space, trim_right, between}
 use Rattle.bas_text.specs.Reading as reading
 use Rattle.bas_text.specs.DataItems.{datum, quoted_datum, plain_datum, item_datum, spaces, plain, core, item}
-use Rattle.bas_text.proofs.TrimLaws.{between_none}
 use Rattle.bas_text.proofs.PieceLaws.{bytes_are}
 use Rattle.bas_text.proofs.DataLaws.{spaces_longest, core_longest, plain_longest, quoted_item_longest, parts_longest, start_part}
 
@@ -28,7 +27,7 @@ built_none : {A B : Type 0} (make : A → B) (f : Reader A) (at : ℕ) → f at 
 unfolding built
 built_none make f at e = rw e refl
 
-slice_get_none : (xs : List ℕ) (i : ℕ) → slice_get xs i ≡ None → length xs ≤ i
+pub slice_get_none : (xs : List ℕ) (i : ℕ) → slice_get xs i ≡ None → length xs ≤ i
 slice_get_none xs i e = elim (slice_get_cases xs i).1 as (λ _. length xs ≤ i) [ inl h ↦ absurd (let both : Some h.0 ≡ None = sym h.2 ∙ e in cc) | inr h ↦ h.0 ]
 
 parts_of : (text : List ℕ) → ReadsLongest (length text) 0 (Repeated (Byte text DataPart)) (λ n. ⊥ ⊎ Begins (byte text DataPart) n) (repeated (byte text DataPart) (length text))

@@ -1,11 +1,11 @@
 -- The bytes that the pieces of a quoted text stand for.
-use Rattle.std.proofs.Common.{◌≡◌, ℕ, ◌+◌, ◌-◌, ◌<◌, ◌≤◌, ◌==◌, Bool, true, false, cond, List, [], ◌∷◌, ◌++◌, length, map, get_or, Option, Some, None, slice_get, refl, sym, ap, ◌∙◌, subst, arith, eqb-true, append_assoc}
+use Rattle.std.proofs.Common.{◌≡◌, ℕ, ◌+◌, ◌-◌, Bool, true, false, List, [], ◌∷◌, ◌++◌, length, map, get_or, Some, None, refl, sym, ap, ◌∙◌, arith, eqb-true}
 use Rattle.std.specs.Prelude.{flat_map}
 use Rattle.std.proofs.lemmas.List.{map-append}
 use Rattle.std.proofs.lemmas.Option.{get_or_from_slice_get}
-use Rattle.bas_form.specs.Form.{Form, Repeated}
-use Rattle.bas_form.specs.Reader.{Reader, ◌followed_by◌, repeated, built, both, all_from, ReadsLongest}
-use Rattle.bas_form.proofs.ReaderLaws.{same_some, built_of}
+use Rattle.bas_form.specs.Form.{Repeated}
+use Rattle.bas_form.specs.Reader.{repeated, built, both, all_from}
+use Rattle.bas_form.proofs.ReaderLaws.{same_some}
 use Rattle.bas_form.proofs.EndLaws.{read_to, read_none}
 use Rattle.bas_form.proofs.ElementLaws.{element_from}
 use Rattle.bas_form.proofs.RepetitionLaws.{all_on, all_end, repeated_longest}
@@ -13,8 +13,8 @@ use Rattle.bas_form.proofs.ByteLaws.{byte_longest, at_byte}
 use Rattle.bas_form.proofs.QuotedLaws.{piece_longest, piece_ends}
 use Rattle.bas_form.specs.declared.byte_class.ByteClass.{ByteClass}
 use Rattle.bas_form.specs.declared.byte_class.ByteClass.TheVariants.{Quote, InQuotes}
-use Rattle.bas_form.specs.Bytes.{is_of_class, of_class, Byte, byte}
-use Rattle.bas_form.specs.Quoted.{Piece, piece, quoted, quoted_bytes, piece_end}
+use Rattle.bas_form.specs.Bytes.{is_of_class, of_class, Byte}
+use Rattle.bas_form.specs.Quoted.{Piece, piece, piece_end}
 use Rattle.bas_text.specs.Trim.{as_space, between}
 use Rattle.bas_text.specs.Reading as reading
 use Rattle.bas_text.proofs.TrimLaws.{between_none, between_cons}

@@ -1,5 +1,5 @@
 -- How the items of a list of data are read from the left.
-use Rattle.std.specs.Prelude.{◌≡◌, ℕ, List, [], ◌∷◌, ◌++◌, length, map, flat_map, Option, Some, None}
+use Rattle.std.specs.Prelude.{ℕ, List, ◌∷◌, length, map, flat_map}
 use Rattle.bas_form.specs.Reader.{Reader, built, all_from}
 use Rattle.bas_form.specs.Quoted.{piece, quoted, quoted_bytes}
 use Rattle.bas_text.specs.Trim.{as_space}

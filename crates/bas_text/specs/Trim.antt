@@ -1,5 +1,5 @@
 -- Spaces at the ends of a text, and tabs, which count as spaces.
-use Rattle.std.specs.Prelude.{◌≡◌, ℕ, zero, suc, ◌+◌, ◌-◌, ◌==◌, if◌then◌else◌, List, [], ◌∷◌, map, slice_index}
+use Rattle.std.specs.Prelude.{ℕ, zero, suc, ◌+◌, ◌-◌, ◌==◌, if◌then◌else◌, List, [], ◌∷◌, slice_index}
 
 -- a tab counts as a space
 abbrev pub as_space : ℕ → ℕ

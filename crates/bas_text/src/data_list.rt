@@ -1,7 +1,6 @@
 //! The items of a list of data.
 
-ghost use Rattle.std.specs.Prelude.{◌≡◌, ℕ, ◌+◌, ◌≤◌, ◌<◌, ◌++◌, ◌∷◌, List, map, length, All, IfOk, IfSome, IfNone, MatchOption, OnOk, OnErr};
-ghost use Rattle.std.specs.Option.{option_map};
+ghost use Rattle.std.specs.Prelude.{◌≡◌, ℕ, ◌+◌, ◌≤◌, ◌<◌, ◌++◌, ◌∷◌, List, map, length, All, IfOk, IfSome, IfNone, MatchOption, OnOk};
 ghost use Rattle.bas_text.specs.Trim.{as_space, trim_right, between};
 ghost use Rattle.bas_text.specs.Reading as reading;
 ghost use Rattle.bas_text.specs.DataItems.{datum, item, next_item, AreItems, IsLongItem, ReadsMore, HasLong};

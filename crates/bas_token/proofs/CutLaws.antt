@@ -1,11 +1,11 @@
 -- The tokens of a line are the one list in which each is the longest at its place.
-use Rattle.std.proofs.Common.{◌≡◌, ℕ, ◌+◌, ◌<◌, ◌≤◌, ◌⊎◌, inl, inr, ◌==◌, Bool, true, false, List, [], ◌∷◌, ◌++◌, length, get_or, nat_lt, Option, Some, None, IsSome, slice_get, refl, sym, ap, ◌∙◌, subst, arith}
+use Rattle.std.proofs.Common.{◌≡◌, ℕ, ◌+◌, ◌<◌, ◌≤◌, ◌⊎◌, inl, inr, ◌==◌, Bool, true, false, List, [], ◌∷◌, ◌++◌, length, get_or, nat_lt, Option, Some, None, refl, sym, ap, ◌∙◌, subst, arith}
 use Rattle.std.proofs.lemmas.Bool.Decides.{nat_tests}
 use Rattle.std.proofs.lemmas.Option.{get_or_from_slice_get, slice_get-get_or}
 use Rattle.std.proofs.lemmas.List.{get_or_past}
-use Rattle.bas_form.specs.Form.{Form, ◌then◌, Repeated, Built}
-use Rattle.bas_form.specs.Reader.{Reader, ◌>>=◌, first_of, both, ◌followed_by◌, repeated, built, all_from, end_of, IsAsFar, ReadsLongest, Begins}
-use Rattle.bas_form.proofs.ReaderLaws.{same_some, some_is, begun, begins, weaker, built_longest, ends, none}
+use Rattle.bas_form.specs.Form.{Form, ◌then◌, Built}
+use Rattle.bas_form.specs.Reader.{Reader, ◌>>=◌, first_of, both, ◌followed_by◌, repeated, built, all_from, IsAsFar, ReadsLongest, Begins}
+use Rattle.bas_form.proofs.ReaderLaws.{same_some, begun, built_longest, none}
 use Rattle.bas_form.proofs.SequenceLaws.{then_longest}
 use Rattle.bas_form.proofs.RepetitionLaws.{repeated_longest, all_sound, all_stops, as_far_on, as_far_ends}
 use Rattle.bas_token.specs.declared.token.TokenKind.{TokenKind}
@@ -20,7 +20,7 @@ use Rattle.bas_token.specs.Reading as reading
 use Rattle.bas_form.proofs.ByteLaws.{byte_longest, byte_found}
 use Rattle.bas_form.proofs.ByteLaws.{at_byte}
 use Rattle.bas_token.proofs.RemarkLaws.{spaces_hold}
-use Rattle.bas_token.proofs.TokenLaws.{EndsLongest, pick, Ranks, rank, known_rank, kind_end, kind_longest, ranked, together, remark_whole}
+use Rattle.bas_token.proofs.TokenLaws.{pick, Ranks, rank, known_rank, kind_end, kind_longest, ranked, together, remark_whole}
 
 -- which kind was taken, and that no remark stood before a word
 record IsPicked (at : ℕ) (r w n q s : Option ℕ) (t : Token) : Type 0 where

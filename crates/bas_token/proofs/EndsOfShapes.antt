@@ -1,12 +1,12 @@
 -- The code's places are where the readers of the lexical grammar end.
-use Rattle.std.proofs.Common.{◌≡◌, ℕ, ◌+◌, ◌<◌, ◌≤◌, ◌==◌, Bool, true, false, nat_le, cond, List, length, Option, Some, None, slice_get, refl, sym, ap, ◌∙◌, arith, eq-eqb}
+use Rattle.std.proofs.Common.{◌≡◌, ℕ, ◌<◌, ◌≤◌, ◌==◌, Bool, true, false, nat_le, cond, List, length, Option, Some, None, slice_get, refl, sym, ap, ◌∙◌, arith, eq-eqb}
 use Rattle.std.specs.Prelude.{unwrap_or}
-use Rattle.bas_form.specs.Reader.{Reader, ◌>>=◌, terminal, ◌followed_by◌, ◌maybe◌, optional, repeated, either, first_of, not_ahead, built, all_from, end_of}
+use Rattle.bas_form.specs.Reader.{Reader, ◌>>=◌, terminal, ◌followed_by◌, ◌maybe◌, optional, either, first_of, not_ahead, all_from, end_of}
 use Rattle.bas_form.specs.Element.{element_at}
 use Rattle.bas_form.proofs.EndLaws.{end_both, end_optional, end_either, end_built, end_maybe, end_all, end_all_then, end_optional_then, end_not_ahead, unless_some, same_steps, read_to, read_none}
 use Rattle.bas_form.proofs.RepetitionLaws.{all_on, all_end}
 use Rattle.bas_form.specs.declared.byte_class.ByteClass.{ByteClass}
-use Rattle.bas_form.specs.declared.byte_class.ByteClass.TheVariants.{Space, Letter, WordPart, Dollar, Digit, Point, LetterE, PlusOrMinus, Quote, InQuotes, PlainSign, Less, Equal, Greater, EqualOrGreater, LessOrGreater, LessOrEqual, ExclamationMark, LetterR, LetterM, InRemark}
+use Rattle.bas_form.specs.declared.byte_class.ByteClass.TheVariants.{Space, Letter, WordPart, Dollar, Digit, Point, LetterE, PlusOrMinus, PlainSign, Less, Equal, Greater, EqualOrGreater, LessOrGreater, LessOrEqual, ExclamationMark, LetterR, LetterM, InRemark}
 use Rattle.bas_form.specs.Bytes.{of_class, byte}
 use Rattle.bas_token.specs.Readers.{shape, all_of, word, digits, fraction, mantissa, exponent, numeral, sign, first_place, first_rem, remark}
 use Rattle.bas_form.specs.Bytes as bytes

@@ -1,19 +1,18 @@
 -- The reader of remarks takes the longest of their form.
-use Rattle.std.proofs.Common.{◌≡◌, ℕ, zero, suc, ◌+◌, ◌<◌, ◌≤◌, ◌⊎◌, inl, inr, ◌==◌, Bool, true, false, nat_le, cond, List, [], ◌∷◌, length, get_or, Option, Some, None, IsSome, slice_get, refl, sym, ap, ◌∙◌, subst, arith, eqb-true}
+use Rattle.std.proofs.Common.{◌≡◌, ℕ, ◌+◌, ◌<◌, ◌≤◌, ◌⊎◌, inl, inr, ◌==◌, Bool, true, false, nat_le, List, [], ◌∷◌, length, get_or, Option, Some, None, slice_get, refl, sym, ap, ◌∙◌, subst, arith, eqb-true}
 use Rattle.std.proofs.lemmas.Bool.Decides.{nat_tests}
-use Rattle.std.proofs.lemmas.Option.{get_or_from_slice_get, slice_get-get_or, slice_get_cases}
+use Rattle.std.proofs.lemmas.Option.{get_or_from_slice_get, slice_get_cases}
 use Rattle.std.proofs.lemmas.List.{get_or_past}
-use Rattle.bas_form.specs.Form.{Form, ◌then◌, Repeated, ◌or◌, NotAhead, Built}
-use Rattle.bas_form.specs.Reader.{Reader, ◌followed_by◌, repeated, either, not_ahead, built, all_from, ReadsLongest, Begins}
+use Rattle.bas_form.specs.Form.{Repeated, ◌or◌, NotAhead}
+use Rattle.bas_form.specs.Reader.{either, all_from, ReadsLongest, Begins}
 use Rattle.bas_form.specs.Element.{element_at}
-use Rattle.bas_form.proofs.ReaderLaws.{same_some, some_is, begins, begun, weaker, either_longest, built_longest, not_ahead_longest}
+use Rattle.bas_form.proofs.ReaderLaws.{same_some, begun, weaker, either_longest, built_longest, not_ahead_longest}
 use Rattle.bas_form.proofs.SequenceLaws.{then_longest}
 use Rattle.bas_form.proofs.RepetitionLaws.{repeated_longest, all_sound, all_stops}
-use Rattle.bas_form.specs.declared.byte_class.ByteClass.{ByteClass}
 use Rattle.bas_form.specs.declared.byte_class.ByteClass.TheVariants.{Space, WordPart, Dollar, LetterE, ExclamationMark, LetterR, LetterM, InRemark}
 use Rattle.bas_form.specs.Bytes.{is_of_class, of_class, Byte, byte}
 use Rattle.bas_token.specs.Lexical.{Shape, OnlySpacesBefore, FirstPlace, FirstRem, Remark}
-use Rattle.bas_token.specs.Readers.{shape, all_of, first_place, first_rem, remark}
+use Rattle.bas_token.specs.Readers.{shape, first_place, first_rem, remark}
 use Rattle.bas_form.proofs.ByteLaws.{byte_longest, byte_found}
 use Rattle.bas_form.proofs.ByteLaws.{at_byte, apart}
 

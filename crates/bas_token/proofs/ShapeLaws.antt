@@ -1,21 +1,16 @@
 -- Each kind's reader takes the longest of its form, and ends where the code does.
-use Rattle.std.proofs.Common.{◌≡◌, ℕ, ◌+◌, ◌<◌, ◌≤◌, ◌⊎◌, inl, inr, ◌==◌, Bool, true, false, not, List, [], ◌∷◌, length, get_or, Option, Some, None, IsSome, slice_get, refl, sym, ap, ◌∙◌, subst, arith, eqb-true}
-use Rattle.std.specs.Prelude.{unwrap_or}
+use Rattle.std.proofs.Common.{◌≡◌, ℕ, ◌⊎◌, inl, inr, ◌==◌, true, false, List, length, Option, Some, slice_get, refl, sym, ◌∙◌, subst, arith, eqb-true}
 use Rattle.std.proofs.lemmas.Bool.Decides.{nat_tests}
-use Rattle.bas_form.specs.Form.{Form, ◌then◌, Optional, Repeated, ◌or◌, NotAhead, Built, ◌perhaps◌, ◌repeating◌}
-use Rattle.bas_form.specs.Reader.{Reader, ◌>>=◌, ◌followed_by◌, ◌maybe◌, optional, repeated, either, first_of, not_ahead, built, all_from, end_of, ReadsLongest, Begins, AlwaysReads}
-use Rattle.bas_form.specs.Element.{element_at}
-use Rattle.bas_form.proofs.ReaderLaws.{value_of, some_is, begins, begun, weaker, optional_longest, either_longest, built_longest, not_ahead_longest, terminal_longest}
+use Rattle.bas_form.specs.Form.{◌then◌, Optional, ◌or◌, ◌perhaps◌}
+use Rattle.bas_form.specs.Reader.{◌followed_by◌, ◌maybe◌, ReadsLongest, Begins}
+use Rattle.bas_form.proofs.ReaderLaws.{begins, begun, weaker, optional_longest, either_longest, built_longest}
 use Rattle.bas_form.proofs.SequenceLaws.{then_longest, perhaps_longest}
-use Rattle.bas_form.proofs.RepetitionLaws.{repeated_longest, repeating_longest, all_on, all_end}
-use Rattle.bas_form.proofs.EndLaws.{end_terminal, end_both, end_optional, end_repeated, end_either, end_built, read_to, read_none}
-use Rattle.bas_form.proofs.ElementLaws.{element_from}
+use Rattle.bas_form.proofs.RepetitionLaws.{repeated_longest, repeating_longest}
 use Rattle.bas_form.specs.declared.byte_class.ByteClass.{ByteClass}
-use Rattle.bas_form.specs.declared.byte_class.ByteClass.TheVariants.{Space, Letter, WordPart, Dollar, Digit, Point, LetterE, PlusOrMinus, Quote, InQuotes, PlainSign, Less, Equal, Greater, EqualOrGreater, LessOrGreater, LessOrEqual, ExclamationMark, LetterR, LetterM, InRemark}
-use Rattle.bas_form.specs.Bytes.{is_of_class, of_class, Byte, byte}
+use Rattle.bas_form.specs.declared.byte_class.ByteClass.TheVariants.{Letter, WordPart, Dollar, Digit, Point, LetterE, PlusOrMinus, PlainSign, Less, Equal, Greater, EqualOrGreater, LessOrGreater, LessOrEqual}
+use Rattle.bas_form.specs.Bytes.{is_of_class, Byte, byte}
 use Rattle.bas_token.specs.Lexical.{Shape, Word, Digits, Mantissa, Numeral, Sign}
-use Rattle.bas_token.specs.Readers.{shape, all_of, word, digits, fraction, mantissa, exponent, numeral, sign}
-use Rattle.bas_token.specs.Reading as reading
+use Rattle.bas_token.specs.Readers.{shape, word, digits, fraction, mantissa, exponent, numeral, sign}
 use Rattle.bas_form.proofs.ByteLaws.{byte_longest, at_byte, begins_byte, apart, never_both}
 
 module _ (line : List ℕ) where

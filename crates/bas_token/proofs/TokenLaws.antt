@@ -1,20 +1,17 @@
 -- The token that is read at a place is the one token that is the longest there.
-use Rattle.std.proofs.Common.{◌≡◌, ℕ, ◌+◌, ◌<◌, ◌≤◌, ◌⊎◌, inl, inr, ◌==◌, ◌||◌, ◌&&◌, not, Bool, true, false, cond, List, [], ◌∷◌, length, Option, Some, None, IsSome, slice_get, codes, refl, sym, ap, ◌∙◌, subst, arith, eqb-true}
+use Rattle.std.proofs.Common.{◌≡◌, ℕ, ◌<◌, ◌≤◌, ◌⊎◌, inl, inr, ◌==◌, ◌||◌, ◌&&◌, not, Bool, true, false, cond, List, [], ◌∷◌, length, Option, Some, None, slice_get, codes, refl, sym, ap, ◌∙◌, subst, arith, eqb-true}
 use Rattle.std.specs.List.{list_any, list_all}
 use Rattle.std.proofs.lemmas.Bool.Decides.{nat_tests}
-use Rattle.bas_form.specs.Form.{Form, ◌then◌, Repeated, ◌or◌, Built}
-use Rattle.bas_form.specs.Reader.{Reader, ◌>>=◌, first_of, end_of, ReadsLongest}
+use Rattle.bas_form.specs.Form.{Form, ◌or◌}
+use Rattle.bas_form.specs.Reader.{Reader, end_of, ReadsLongest}
 use Rattle.bas_form.proofs.ReaderLaws.{last, none, same_some}
 use Rattle.bas_form.proofs.EndLaws.{read_to, read_none}
 use Rattle.bas_token.specs.declared.token.TokenKind.{TokenKind}
 use Rattle.bas_token.specs.declared.token.TokenKind.TheVariants as kind
-use Rattle.bas_token.specs.declared.token.Token.{Token}
-use Rattle.bas_form.specs.declared.byte_class.ByteClass.{ByteClass}
 use Rattle.bas_form.specs.declared.byte_class.ByteClass.TheVariants.{Space, Letter, Digit, Point, Quote, PlainSign, Less, Equal, Greater, EqualOrGreater, LessOrGreater, LessOrEqual, ExclamationMark, LetterR}
 use Rattle.bas_form.specs.Bytes.{is_of_class, Byte}
-use Rattle.bas_token.specs.Lexical.{Shape, FirstRem, Word, Mantissa, Numeral, Sign, Remark}
-use Rattle.bas_form.specs.Quoted.{Quoted}
-use Rattle.bas_token.specs.Tokens.{Stands, StandsAs, IsToken, OneToken}
+use Rattle.bas_token.specs.Lexical.{Shape, FirstRem, Mantissa, Sign}
+use Rattle.bas_token.specs.Tokens.{Stands, StandsAs}
 use Rattle.bas_token.specs.Reading as reading
 use Rattle.bas_form.proofs.ByteLaws.{at_byte}
 use Rattle.bas_form.proofs.QuotedLaws.{quoted_longest}

@@ -1,8 +1,8 @@
 -- The reader of each form of the lexical grammar.
-use Rattle.std.specs.Prelude.{◌≡◌, ℕ, nat_le, List, length, Option, Some, None, if◌then◌else◌, slice_get}
+use Rattle.std.specs.Prelude.{ℕ, nat_le, List, length, Option, Some, None, if◌then◌else◌, slice_get}
 use Rattle.bas_form.specs.Reader.{Reader, ◌followed_by◌, ◌maybe◌, optional, repeated, either, not_ahead, built, all_from}
 use Rattle.bas_form.specs.Element.{element_at}
-use Rattle.bas_form.specs.declared.byte_class.ByteClass.TheVariants.{Space, Letter, WordPart, Dollar, Digit, Point, LetterE, PlusOrMinus, Quote, InQuotes, PlainSign, Less, Equal, Greater, EqualOrGreater, LessOrGreater, LessOrEqual, ExclamationMark, LetterR, LetterM, InRemark}
+use Rattle.bas_form.specs.declared.byte_class.ByteClass.TheVariants.{Space, Letter, WordPart, Dollar, Digit, Point, LetterE, PlusOrMinus, PlainSign, Less, Equal, Greater, EqualOrGreater, LessOrGreater, LessOrEqual, ExclamationMark, LetterR, LetterM, InRemark}
 use Rattle.bas_form.specs.Bytes.{byte, of_class}
 
 abbrev pub shape : {A : Type 0} → Reader A → Reader (Unit {0})

@@ -1,12 +1,11 @@
 -- Where the token ends that a byte begins, as it is read from the left.
-use Rattle.std.specs.Prelude.{◌≡◌, ℕ, ◌+◌, nat_le, ◌==◌, List, length, Option, Some, None, is_some, unwrap_or, if◌then◌else◌, slice_get}
-use Rattle.bas_form.specs.Reader.{Reader, ◌>>=◌, all_from, first_of, end_of, repeated}
-use Rattle.bas_form.specs.Element.{element_at}
+use Rattle.std.specs.Prelude.{ℕ, nat_le, ◌==◌, List, length, Option, Some, None, unwrap_or, if◌then◌else◌}
+use Rattle.bas_form.specs.Reader.{◌>>=◌, all_from, first_of}
 use Rattle.bas_token.specs.declared.token.TokenKind.{TokenKind}
 use Rattle.bas_token.specs.declared.token.TokenKind.TheVariants as kind
 use Rattle.bas_token.specs.declared.token.Token.{Token}
 use Rattle.bas_form.specs.declared.byte_class.ByteClass.{ByteClass}
-use Rattle.bas_form.specs.declared.byte_class.ByteClass.TheVariants.{Space, Letter, WordPart, Dollar, Digit, Point, LetterE, PlusOrMinus, Quote, InQuotes, PlainSign, Less, Equal, Greater, EqualOrGreater, LessOrGreater, LessOrEqual, ExclamationMark, LetterR, LetterM, InRemark}
+use Rattle.bas_form.specs.declared.byte_class.ByteClass.TheVariants.{Space, Letter, WordPart, Dollar, Digit, Point, LetterE, PlusOrMinus, PlainSign, Less, Equal, Greater, EqualOrGreater, LessOrGreater, LessOrEqual, ExclamationMark, LetterR, LetterM, InRemark}
 use Rattle.bas_form.specs.Bytes.{byte_end, past}
 use Rattle.bas_form.specs.Quoted.{piece, piece_end}
 

@@ -1,4 +1,4 @@
-use Rattle.std.proofs.Common.{◌≡◌, sym, ◌∙◌}
+use Rattle.std.proofs.Common.{sym, ◌∙◌}
 use Rattle.bas_form.proofs.ByteLaws.{byte_end_found, byte_end_other, byte_end_outside}
 use Rattle.bas_form.proofs.scan.byte_end.Goals as goal
 use Rattle.bas_form.proofs.scan.byte_end.Goals.{else-at-text-via-then-at-text+else-has, else-at-text-via-else-at-text}

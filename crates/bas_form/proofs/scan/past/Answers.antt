@@ -1,4 +1,4 @@
-use Rattle.std.proofs.Common.{◌≡◌, ◌≤◌, ◌<◌, length, sym, ◌∙◌, arith}
+use Rattle.std.proofs.Common.{sym, ◌∙◌, arith}
 use Rattle.bas_form.proofs.ByteLaws.{past_on, past_other, past_outside}
 use Rattle.bas_form.proofs.scan.past.Goals as goal
 

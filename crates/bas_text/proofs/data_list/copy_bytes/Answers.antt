@@ -1,4 +1,4 @@
-use Rattle.std.proofs.Common.{◌≡◌, ◌++◌, ◌∷◌, [], map, sym, ap, ◌∙◌, append_assoc, append-nil}
+use Rattle.std.proofs.Common.{◌++◌, ◌∷◌, [], map, sym, ap, ◌∙◌, append_assoc, append-nil}
 use Rattle.bas_text.specs.Trim.{as_space, between}
 use Rattle.bas_text.proofs.TrimLaws.{between_none, copied_on}
 use Rattle.bas_text.proofs.data_list.copy_bytes.Goals as goal

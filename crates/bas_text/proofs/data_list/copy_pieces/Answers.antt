@@ -1,4 +1,4 @@
-use Rattle.std.proofs.Common.{◌≡◌, ◌-◌, ◌++◌, map, sym, ap, ◌∙◌, append_assoc, append-nil}
+use Rattle.std.proofs.Common.{◌-◌, ◌++◌, map, sym, ap, ◌∙◌, append_assoc, append-nil}
 use Rattle.bas_text.specs.Trim.{as_space, between}
 use Rattle.bas_text.specs.Reading as reading
 use Rattle.bas_text.proofs.PieceLaws.{more_on, more_end, past_on, past_end}

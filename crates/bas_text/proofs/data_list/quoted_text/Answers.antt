@@ -1,4 +1,4 @@
-use Rattle.std.proofs.Common.{◌≡◌, ◌+◌, ◌-◌, ℕ, List, Some, ◌++◌, map, sym, ap, ◌∙◌}
+use Rattle.std.proofs.Common.{◌+◌, ◌-◌, ℕ, List, Some, ◌++◌, map, sym, ap, ◌∙◌}
 use Rattle.bas_text.specs.Trim.{as_space, between}
 use Rattle.bas_text.specs.Reading as reading
 use Rattle.bas_text.proofs.PieceLaws.{quoted_some, quoted_none}

@@ -1,4 +1,4 @@
-use Rattle.std.proofs.Common.{◌≡◌, ◌≤◌, ◌<◌, [], map, sym, ap, ◌∙◌, arith}
+use Rattle.std.proofs.Common.{◌≡◌, map, sym, ap, ◌∙◌, arith}
 use Rattle.bas_text.specs.Trim.{as_space, trim_right, between}
 use Rattle.bas_text.proofs.TrimLaws.{between_none, trim_on, trim_stops}
 use Rattle.bas_text.proofs.data_list.trimmed_end.Goals as goal

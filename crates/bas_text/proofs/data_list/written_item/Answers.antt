@@ -1,5 +1,5 @@
-use Rattle.std.proofs.Common.{◌≡◌, ℕ, List, true, false, Some, None, ◌++◌, map, sym, ap, ◌∙◌}
-use Rattle.bas_form.specs.declared.byte_class.ByteClass.TheVariants.{Space, DataPart}
+use Rattle.std.proofs.Common.{◌≡◌, ℕ, true, false, Some, ◌++◌, map, sym, ap, ◌∙◌}
+use Rattle.bas_form.specs.declared.byte_class.ByteClass.TheVariants.{DataPart}
 use Rattle.bas_form.specs.Bytes.{past}
 use Rattle.bas_text.specs.declared.data_list.Datum.{Datum}
 use Rattle.bas_text.specs.Trim.{as_space, trim_right, between}

@@ -1,12 +1,9 @@
-use Rattle.std.proofs.Common.{◌≡◌, ◌<◌, ℕ, length, List, inl, sym, ap, ◌∙◌, subst, arith, Ok, Err}
-use Rattle.bas_token.specs.declared.token.Token.{Token}
-use Rattle.bas_token.specs.declared.token.TokenFault.{TokenFault}
-use Rattle.bas_token.specs.declared.token.TokenFault.TheVariants.{BadToken, Memory}
+use Rattle.std.proofs.Common.{◌≡◌, ◌<◌, length, inl, sym, ap, ◌∙◌, subst, arith}
+use Rattle.bas_token.specs.declared.token.TokenFault.TheVariants.{BadToken}
 use Rattle.bas_form.specs.declared.byte_class.ByteClass.TheVariants.{Space}
 use Rattle.bas_form.specs.Bytes as bytes
-use Rattle.bas_token.specs.Reading as reading
-use Rattle.bas_token.specs.Tokens.{AreTokens, IsBadByte}
-use Rattle.bas_token.proofs.CutLaws.{HasRead, read_on, whole_found, whole_only, bad_found, bad_only}
+use Rattle.bas_token.specs.Tokens.{IsBadByte}
+use Rattle.bas_token.proofs.CutLaws.{read_on, whole_found, whole_only, bad_found, bad_only}
 use Rattle.bas_token.proofs.cut.tokens.Goals as goal
 
 pub loop-token-preserved : goal.loop-token-preserved

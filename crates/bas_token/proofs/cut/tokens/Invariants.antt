@@ -1,6 +1,4 @@
-use Rattle.std.proofs.Common.{◌≡◌, ◌≤◌, ◌-◌, length}
-use Rattle.bas_token.specs.Reading as reading
-use Rattle.bas_form.specs.declared.byte_class.ByteClass.TheVariants.{Space}
+use Rattle.std.proofs.Common.{◌≤◌, ◌-◌, length}
 use Rattle.bas_token.proofs.CutLaws.{HasRead}
 use Rattle.bas_token.proofs.cut.tokens.Given as goal
 

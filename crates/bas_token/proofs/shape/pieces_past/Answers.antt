@@ -1,5 +1,4 @@
-use Rattle.std.proofs.Common.{◌≡◌, sym, ◌∙◌, arith}
-use Rattle.bas_token.specs.Reading as reading
+use Rattle.std.proofs.Common.{sym, ◌∙◌, arith}
 use Rattle.bas_token.proofs.EndsOfShapes.{pieces_on, pieces_done}
 use Rattle.bas_token.proofs.shape.pieces_past.Goals as goal
 
