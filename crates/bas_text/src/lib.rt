@@ -11,3 +11,6 @@ mod data_list;
 pub use byte_string::{MAX_STRING_LEN, StrVal, TextFault};
 pub use data_list::{Datum, data_items};
 pub use std::alloc::AllocError as NoMemory;
+
+#[cfg(test)]
+mod tests;

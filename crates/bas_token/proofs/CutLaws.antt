@@ -13,7 +13,7 @@ use Rattle.bas_token.specs.declared.token.TokenKind.TheVariants as kind
 use Rattle.bas_token.specs.declared.token.Token.{Token}
 use Rattle.bas_form.specs.declared.byte_class.ByteClass.TheVariants.{Space}
 use Rattle.bas_form.specs.Bytes.{is_of_class, Byte, byte}
-use Rattle.bas_token.specs.Tokens.{Stands, StandsAs, IsToken, OneToken, Spaces, SpacedTokens, AreTokens, BeginsNoToken, IsBadByte}
+use Rattle.bas_token.specs.Tokens.{Stands, StandsAs, IsToken, OneToken, Spaces, SpacedTokens, AreTokens, BeginsNoToken, IsBadByte, AreInOrder}
 use Rattle.bas_token.specs.Readers.{all_of}
 use Rattle.bas_form.specs.Bytes as bytes
 use Rattle.bas_token.specs.Reading as reading
@@ -409,3 +409,33 @@ module _ (line : List ℕ) where
     bad_only stop bad =
         let read = same_reading bad.tokens bad.end (read_only bad.tokens bad.end stop bad.before bad.spaces (no_space_there stop bad.inside bad.no_space) bad.no_token) in
         ap (bytes.past line Space) read.1 ∙ stop_is bad.end stop bad.spaces (no_space_there stop bad.inside bad.no_space)
+
+module _ (line : List ℕ) where
+  spaces_grow : (at next : ℕ) → Stands (Spaces line) at next → (at ≤ next) × (at < next → next ≤ length line)
+  spaces_grow at next h =
+      let longest = repeated_longest (byte_longest line Space) (takes_one line) (λ n h a m k. h) in
+      let g = longest.grows at h.0 next h.1 in
+      (omega arith, longest.within at h.0 next h.1)
+
+  in_order : (tokens : List Token) (at end : ℕ) → SpacedTokens line at tokens end → end ≤ length line → AreInOrder (length line) at tokens
+  in_order [] at end h l = let same = h in omega arith
+  in_order (t ∷ ts) at end h l =
+      let parts = h.1.2 in
+      let goal : Token → Type 0 = λ u. OneToken line parts.0 u h.0 in
+      let token = subst goal (sym h.1.1) parts.2 in
+      let spaces = spaces_grow at parts.0 (h.1.0.0, parts.1) in
+      let grown = (kind_longest line t.kind).grows t.from t.to token.2.stands in
+      let from = token.0 in
+      let later = spaces.0 in
+      (omega arith, grown.0, subst (λ (n : ℕ). AreInOrder (length line) n ts) (sym token.1) (in_order ts h.0 end h.2 l))
+
+  pub tokens_in_order : (tokens : List Token) → AreTokens line tokens → AreInOrder (length line) 0 tokens
+  tokens_in_order tokens are = in_order tokens 0 are.0 are.1 (spaces_grow are.0 (length line) are.2).0
+
+-- so many tokens take so many bytes
+few : (len at : ℕ) (tokens : List Token) → AreInOrder len at tokens → at + length tokens ≤ len
+few len at [] h = omega arith
+few len at (t ∷ ts) h = let rest = few len t.to ts h.2 in let low = h.0 in let step = h.1 in omega arith
+
+pub tokens_count : (line : List ℕ) (tokens : List Token) → AreTokens line tokens → length tokens ≤ length line
+tokens_count line tokens are = let n = few (length line) 0 tokens (tokens_in_order line tokens are) in omega arith

@@ -1,5 +1,5 @@
 -- The tokens of a line, each the longest at its place.
-use Rattle.std.specs.Prelude.{◌≡◌, ℕ, ◌+◌, ◌<◌, ◌≤◌, List, length}
+use Rattle.std.specs.Prelude.{◌≡◌, ℕ, ◌+◌, ◌<◌, ◌≤◌, List, [], ◌∷◌, length}
 use Rattle.bas_form.specs.Form.{Form, ◌then◌, Repeated, Built}
 use Rattle.bas_token.specs.declared.token.TokenKind.{TokenKind}
 use Rattle.bas_token.specs.declared.token.TokenKind.TheVariants as kind
@@ -53,3 +53,8 @@ module _ (line : List ℕ) where
     pub inside : at < length line
     pub no_space : Stands (Byte line Space) at (at + 1) → ⊥
     pub no_token : BeginsNoToken at
+
+-- Each token has a byte at least, and lies between the place behind the one before it and the end.
+abbrev pub AreInOrder : ℕ → ℕ → List Token → Type 0
+AreInOrder len at [] = at ≤ len
+AreInOrder len at (t ∷ ts) = (at ≤ t.from) × (t.from < t.to) × AreInOrder len t.to ts
