@@ -1,0 +1,10 @@
+pub mod AnswerLaws
+pub mod Headlines
+pub mod Reading
+pub mod Runs
+pub mod Steps
+pub mod Taking
+pub mod Values
+pub mod Behind
+pub mod Sums
+pub mod Lines

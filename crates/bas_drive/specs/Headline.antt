@@ -1,0 +1,88 @@
+-- What the top call promises.
+use Rattle.std.specs.Prelude.{◌≡◌, ℕ, ◌==◌, ◌||◌, Bool, true, false, MatchBool, List, Option}
+use Rattle.bas_drive.specs.Took.{TookAll, TookPrefix}
+use Rattle.bas_drive.specs.Meaning.{Outcome}
+use Rattle.bas_drive.specs.Report.{status_of, report_of, code_of}
+use Rattle.bas_drive.specs.declared.ending.Ending.{Ending}
+use Rattle.bas_drive.specs.declared.status.Status.{Status}
+use Rattle.bas_drive.specs.declared.status.Status.TheVariants.{Ended, Stopped, Usage, SourceRefused, LinkRefused, ImageRefused, LinesSpent, StoreFault, InputFault, OutputFault, Memory, FileMissing, ReportFault, TooLarge}
+
+-- the command gave up: the outside failed, or there was no memory
+abbrev pub gave_up : Status → Bool
+gave_up Ended = false
+gave_up Stopped = false
+gave_up Usage = false
+gave_up SourceRefused = false
+gave_up LinkRefused = false
+gave_up ImageRefused = false
+gave_up LinesSpent = false
+gave_up StoreFault = true
+gave_up InputFault = true
+gave_up OutputFault = true
+gave_up Memory = true
+gave_up FileMissing = false
+gave_up ReportFault = true
+gave_up TooLarge = false
+
+-- the statuses that the commands built so far can have
+abbrev pub can_be : Status → Bool
+can_be Ended = true
+can_be Stopped = true
+can_be Usage = true
+can_be SourceRefused = true
+can_be LinkRefused = false
+can_be ImageRefused = false
+can_be LinesSpent = false
+can_be StoreFault = true
+can_be InputFault = false
+can_be OutputFault = true
+can_be Memory = true
+can_be FileMissing = true
+can_be ReportFault = true
+can_be TooLarge = false
+
+-- the report failed
+abbrev pub is_report_fault : Status → Bool
+is_report_fault Ended = false
+is_report_fault Stopped = false
+is_report_fault Usage = false
+is_report_fault SourceRefused = false
+is_report_fault LinkRefused = false
+is_report_fault ImageRefused = false
+is_report_fault LinesSpent = false
+is_report_fault StoreFault = false
+is_report_fault InputFault = false
+is_report_fault OutputFault = false
+is_report_fault Memory = false
+is_report_fault FileMissing = false
+is_report_fault ReportFault = true
+is_report_fault TooLarge = false
+
+-- an ending was told with its whole line, or some of the line and no more, for want of memory or by a fault of the report
+pub data IsTold (ending : Ending) (before now : Option (List ℕ)) : Status → Type 0 where
+  Whole : TookAll before now (report_of ending) → IsTold ending before now (status_of ending)
+  CutByFault : TookPrefix before now (report_of ending) → IsTold ending before now ReportFault
+  CutByMemory : TookPrefix before now (report_of ending) → IsTold ending before now Memory
+
+-- the whole answer was given: its status, all of its output, and its report line
+pub record IsAnswered (answer : Outcome) (out_before out_now report_before report_now : Option (List ℕ)) (status : Status) : Type 0 where
+  pub status_is : status ≡ status_of answer.ending
+  pub output : TookAll out_before out_now answer.output
+  pub report : TookAll report_before report_now (report_of answer.ending)
+
+-- the whole answer was given, or the command gave up with some of the output taken, from the front
+abbrev pub AnswersOrGivesUp : Outcome → Option (List ℕ) → Option (List ℕ) → Option (List ℕ) → Option (List ℕ) → Status → Type 0
+AnswersOrGivesUp answer out_before out_now report_before report_now status =
+    MatchBool (gave_up status) (TookPrefix out_before out_now answer.output) (IsAnswered answer out_before out_now report_before report_now status)
+
+-- the answer tells of that fault, or the report failed as well, or there was no memory
+abbrev pub tells_fault : Status → Status → Bool
+tells_fault fault answer = code_of answer == code_of fault || (is_report_fault answer || is_memory answer)
+  where
+    is_memory : Status → Bool
+    is_memory status = code_of status == 10
+
+-- some of one report line was taken, from the front
+pub record TookReportPrefix (before now : Option (List ℕ)) : Type 0 where
+  pub ending : Ending
+  pub some : TookPrefix before now (report_of ending)

@@ -1,0 +1,10 @@
+pub mod Bytes
+pub mod Form
+pub mod Rest
+pub mod Examples
+pub mod Meaning
+pub mod Report
+pub mod Run
+pub mod Took
+pub mod Answer
+pub mod Headline

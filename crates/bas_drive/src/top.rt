@@ -1,0 +1,163 @@
+ghost use Rattle.std.specs.Prelude.{◌≡◌, ◌≢◌, ◌≤◌, ◌<◌, ◌↔◌, ◌⊎◌, false, length, map, string_bytes, IfOk, IfSome, IsTrue, Some};
+ghost use Rattle.std.specs.FinMap.{get};
+ghost use Rattle.bas_world.specs.Count.{CountMoves, Rose};
+ghost use Rattle.bas_world.specs.Files.{size_of};
+ghost use Rattle.bas_drive.specs.Form.{program_of};
+ghost use Rattle.bas_drive.specs.Answer.{command_of, command_answer, name_of, program_answer, file_answer, answer_of};
+ghost use Rattle.bas_drive.specs.Took.{TookAll};
+ghost use Rattle.bas_drive.specs.Report.{report_of};
+ghost use Rattle.bas_drive.specs.Headline.{IsAnswered, AnswersOrGivesUp, can_be, tells_fault, TookReportPrefix};
+ghost use Rattle.bas_drive.specs.Run.{RunOf, is_output_fault, is_store_fault, store_ending};
+
+use crate::ending::Ending;
+use crate::file::read_file;
+use crate::reader;
+use crate::report::tell;
+use crate::run::run;
+use crate::status::Status;
+use crate::words::{Command, command_of};
+use bas_base::FileName;
+use bas_world::{Sink, Source, Store, StoreFail};
+use std::alloc::Global;
+
+/// The most bytes of a source file.
+const SOURCE_BYTES: u64 = 1_048_576;
+
+// The ending of a command whose store failed.
+fn store_ending(fail: StoreFail) -> Ending
+    ensures { result ≡ store_ending fail }
+{
+    match fail {
+        StoreFail::Failed => Ending::StoreFault,
+        StoreFail::Memory => Ending::Memory,
+    }
+}
+
+// Runs the program that the bytes of a file are, or refuses them.
+fn run_source<O: Sink>(alloc: Global, name: FileName, bytes: &[u8], out: &mut O) -> Ending
+    ensures does { RunOf (program_answer name (program_of bytes.now)) (O.taken out.old) (O.taken out.new) result }
+    ensures counted { CountMoves (is_output_fault result) (O.faults out.old) (O.faults out.new) }
+    ensures store { is_store_fault result ≡ false }
+{
+    match reader::program(alloc, bytes) {
+        Err(_) => Ending::Memory,
+        Ok(None) => Ending::Refused(name),
+        Ok(Some(program)) => run(alloc, program.items(), out),
+    }
+}
+
+// Reads a file of that size, and runs it.
+fn run_sized<S: Store, O: Sink>(
+    alloc: Global,
+    name: FileName,
+    size: u64,
+    store: &mut S,
+    out: &mut O,
+) -> Ending
+    requires short { length name ≤ S.longest store.old }
+    requires size { IfSome (S.files store.old) (λ files. size_of files name ≡ Some size) }
+    ensures does { IfSome (S.files store.old) (λ files. RunOf (file_answer name (get files name)) (O.taken out.old) (O.taken out.new) result) }
+    ensures output { CountMoves (is_output_fault result) (O.faults out.old) (O.faults out.new) }
+    ensures store { CountMoves (is_store_fault result) (S.faults store.old) (S.faults store.new) }
+    ensures unchanged { S.files store.new ≡ S.files store.old }
+    ensures longest { S.longest store.new ≡ S.longest store.old }
+{
+    if size > SOURCE_BYTES {
+        return Ending::Refused(name);
+    }
+    match read_file(alloc, store, name, size as usize) {
+        Ok(bytes) => run_source(alloc, name, bytes.as_slice(), out),
+        Err(fail) => store_ending(fail),
+    }
+}
+
+// Runs the program in a file.
+fn go<S: Store, O: Sink>(alloc: Global, name: FileName, store: &mut S, out: &mut O) -> Ending
+    requires { length name ≤ S.longest store.old }
+    ensures does { IfSome (S.files store.old) (λ files. RunOf (file_answer name (get files name)) (O.taken out.old) (O.taken out.new) result) }
+    ensures output { CountMoves (is_output_fault result) (O.faults out.old) (O.faults out.new) }
+    ensures store { CountMoves (is_store_fault result) (S.faults store.old) (S.faults store.new) }
+    ensures unchanged { S.files store.new ≡ S.files store.old }
+    ensures longest { S.longest store.new ≡ S.longest store.old }
+{
+    match store.size(name) {
+        Ok(None) => Ending::Missing(name),
+        Ok(Some(size)) => run_sized(alloc, name, size, store, out),
+        Err(fail) => store_ending(fail),
+    }
+}
+
+// Does what a command asks.
+fn obey<S: Store, O: Sink>(alloc: Global, command: Command, store: &mut S, out: &mut O) -> Ending
+    requires { length (name_of command) ≤ S.longest store.old }
+    ensures does { IfSome (S.files store.old) (λ files. RunOf (command_answer (Some command) files) (O.taken out.old) (O.taken out.new) result) }
+    ensures output { CountMoves (is_output_fault result) (O.faults out.old) (O.faults out.new) }
+    ensures store { CountMoves (is_store_fault result) (S.faults store.old) (S.faults store.new) }
+    ensures unchanged { S.files store.new ≡ S.files store.old }
+    ensures longest { S.longest store.new ≡ S.longest store.old }
+{
+    match command {
+        Command::Go(name) => go(alloc, name, store, out),
+    }
+}
+
+// Does what the words ask, and leaves the report to be written.
+fn perform<S: Store, O: Sink>(alloc: Global, words: &[String], store: &mut S, out: &mut O) -> Ending
+    requires { S.longest store.old ≡ 68 }
+    ensures does { IfSome (S.files store.old) (λ files. RunOf (answer_of (map string_bytes words.now) files) (O.taken out.old) (O.taken out.new) result) }
+    ensures output { CountMoves (is_output_fault result) (O.faults out.old) (O.faults out.new) }
+    ensures store { CountMoves (is_store_fault result) (S.faults store.old) (S.faults store.new) }
+    ensures unchanged { S.files store.new ≡ S.files store.old }
+    ensures longest { S.longest store.new ≡ S.longest store.old }
+{
+    match command_of(words) {
+        None => Ending::Usage,
+        Some(command) => obey(alloc, command, store, out),
+    }
+}
+
+/// Does what the words of the command line ask: `go` and the name of a source file runs the
+/// program in that file. The answer's status is the program's exit status, and one line about
+/// it goes to the report where it has one.
+pub fn basic_words<S: Store, I: Source, O: Sink, E: Sink>(
+    alloc: Global,
+    words: &[String],
+    store: &mut S,
+    input: &mut I,
+    out: &mut O,
+    report: &mut E,
+) -> Status
+    requires { S.longest store.old ≡ 68 }
+
+    // Where the store tells its files, no count of faults rose and there was memory: the status,
+    // the output and the report are those of the answer to the words.
+    ensures exact { IfSome (S.files store.old) (λ files. ¬ Rose (S.faults store.old) (S.faults store.new) → ¬ Rose (O.faults out.old) (O.faults out.new) → ¬ Rose (E.faults report.old) (E.faults report.new) → result ≢ Status.Memory → IsAnswered (answer_of (map string_bytes words.now) files) (O.taken out.old) (O.taken out.new) (E.taken report.old) (E.taken report.new) result) }
+
+    // Whatever failed: that answer, or a failure with the front of its output.
+    ensures answered { IfSome (S.files store.old) (λ files. AnswersOrGivesUp (answer_of (map string_bytes words.now) files) (O.taken out.old) (O.taken out.new) (E.taken report.old) (E.taken report.new) result) }
+    ensures built { IsTrue (can_be result) }
+
+    // A fault is answered only where that object's count rose in this call.
+    ensures store_fault { result ≡ Status.StoreFault → Rose (S.faults store.old) (S.faults store.new) }
+    ensures output_fault { result ≡ Status.OutputFault → Rose (O.faults out.old) (O.faults out.new) }
+    ensures report_fault { result ≡ Status.ReportFault → Rose (E.faults report.old) (E.faults report.new) }
+
+    // Where a count rose, the answer is the fault of that object, of the report, or want of memory.
+    ensures store_rose { S.faults store.old < S.faults store.new → IsTrue (tells_fault Status.StoreFault result) }
+    ensures output_rose { O.faults out.old < O.faults out.new → IsTrue (tells_fault Status.OutputFault result) }
+    ensures report_rose { E.faults report.old < E.faults report.new → IsTrue (tells_fault Status.ReportFault result) }
+
+    // What the report took of a failure.
+    ensures store_fault_told { result ≡ Status.StoreFault → TookAll (E.taken report.old) (E.taken report.new) (report_of Ending.StoreFault) }
+    ensures output_fault_told { result ≡ Status.OutputFault → TookAll (E.taken report.old) (E.taken report.new) (report_of Ending.OutputFault) }
+    ensures cut_short { TookReportPrefix (E.taken report.old) (E.taken report.new) }
+
+    // What no command changes.
+    ensures files_stay { S.files store.new ≡ S.files store.old }
+    ensures input_stays { I.left input.new ≡ I.left input.old }
+    ensures input_sound { I.faults input.new ≡ I.faults input.old }
+{
+    let _ = input;
+    let ending = perform(alloc, words, store, out);
+    tell(alloc, ending, report)
+}

@@ -1,0 +1,4 @@
+10 LET A = 2
+20 LET B = A + 40
+30 PRINT B - 50
+40 END

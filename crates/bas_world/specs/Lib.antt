@@ -1,0 +1,5 @@
+pub mod Count
+pub mod Faults
+pub mod Files
+pub mod Memory
+pub mod Plan
