@@ -1,21 +1,22 @@
 -- What the item at a place is, with and without quotes.
-use Rattle.std.proofs.Common.{◌≡◌, ℕ, ◌+◌, ◌≤◌, ◌⊎◌, inl, inr, ◌==◌, ◌&&◌, ◌||◌, not, Bool, true, false, List, length, map, Option, Some, None, slice_get, refl, sym, ap, ◌∙◌, arith}
-use Rattle.std.proofs.lemmas.Option.{slice_get_cases}
+use Rattle.std.proofs.Common.{◌≡◌, ℕ, ◌+◌, ◌≤◌, ◌⊎◌, inl, inr, ◌==◌, ◌&&◌, ◌||◌, not, Bool, true, false, List, length, map, Option, Some, None, slice_get, refl, sym, ap, ◌∙◌, subst, arith}
+use Rattle.std.proofs.lemmas.Option.{slice_get_cases, slice_get_past}
 use Rattle.bas_form.specs.Form.{Repeated}
 use Rattle.bas_form.specs.Reader.{Reader, ◌>>=◌, both, ◌followed_by◌, optional_at, repeated, either, built, all_from, ReadsLongest, Begins}
-use Rattle.bas_form.proofs.ReaderLaws.{same_some, bound, built_of, optional_of, optional_longest}
+use Rattle.bas_form.proofs.ReaderLaws.{same_some, bound, built_of, optional_of, optional_longest, ends, begun}
 use Rattle.bas_form.proofs.SequenceLaws.{both_of}
 use Rattle.bas_form.proofs.RepetitionLaws.{all_on, all_end, all_sound, all_stops, repeated_longest}
 use Rattle.bas_form.proofs.ByteLaws.{byte_longest, byte_found, byte_other, byte_outside, at_byte}
-use Rattle.bas_form.proofs.QuotedLaws.{quoted_longest}
+use Rattle.bas_form.proofs.QuotedLaws.{piece_longest, quoted_longest}
 use Rattle.bas_form.specs.declared.byte_class.ByteClass.{ByteClass}
-use Rattle.bas_form.specs.declared.byte_class.ByteClass.TheVariants.{Space, DataStart, DataPart}
+use Rattle.bas_form.specs.declared.byte_class.ByteClass.TheVariants.{Space, Quote, DataStart, DataPart}
 use Rattle.bas_form.specs.Bytes.{is_of_class, is_unquoted, Byte, byte, past}
-use Rattle.bas_form.specs.Quoted.{quoted, quoted_bytes}
+use Rattle.bas_form.specs.Quoted.{Quoted, piece, quoted, quoted_bytes}
 use Rattle.bas_text.specs.declared.data_list.Datum.{Datum}
 use Rattle.bas_text.specs.Trim.{as_space, trim_right, between}
 use Rattle.bas_text.specs.Reading as reading
-use Rattle.bas_text.specs.DataItems.{datum, quoted_datum, plain_datum, item_datum, spaces, plain, core, item}
+use Rattle.bas_text.specs.DataItems.{datum, quoted_datum, plain_datum, item_datum, spaces, plain, core, item, IsQuotedString}
+use Rattle.bas_text.specs.declared.byte_string.TheConstants.{MAX_STRING_LEN}
 use Rattle.bas_text.proofs.PieceLaws.{bytes_are}
 use Rattle.bas_text.proofs.DataLaws.{spaces_longest, core_longest, plain_longest, quoted_item_longest, parts_longest, start_part}
 
@@ -163,3 +164,29 @@ module _ (text : List ℕ) where
   pub item_plain : (at : ℕ) → reading.quoted_text text (past text Space at) ≡ None →
       item text at ≡ Some (datum false (trim_right (map as_space (between text (past text Space at) (past text DataPart (past text Space at))))), past text DataPart (past text Space at))
   item_plain at e = plain_by at (byte text DataStart (past text Space at)) e refl ∙ part_bytes (past text Space at)
+
+-- a whole text in quotes
+module _ (text : List ℕ) where
+  no_piece_at_end : ⊥ ⊎ (⊥ ⊎ Begins (piece text) (length text)) → ⊥
+  no_piece_at_end (inl h) = h
+  no_piece_at_end (inr (inl h)) = h
+  no_piece_at_end (inr (inr h)) =
+      let p = begun (piece_longest text) (length text) h in
+      let q = at_byte text Quote (length text) p.0.0 p.2.0 p.2.1 in
+      absurd (let both : Some q.0 ≡ None = sym q.1 ∙ slice_get_past text (length text) (omega arith) in cc)
+
+  quoted_of : (at : ℕ) (tree : (ℕ × (List ℕ × ℕ)) × List (ℕ × (List ℕ × ℕ))) (end : ℕ) → quoted text at ≡ Some (tree, end) → reading.quoted_text text at ≡ Some (map as_space (quoted_bytes tree), end)
+  unfolding reading.quoted_text
+  quoted_of at tree end e = built_of (λ q. map as_space (quoted_bytes q)) (quoted_longest text) at (tree, end) e
+
+  -- what is read to the end of the text
+  pub whole_found : (string : List ℕ) (end : ℕ) → reading.quoted_text text 0 ≡ Some (string, end) → end ≡ length text → length string ≤ MAX_STRING_LEN → IsQuotedString text string
+  whole_found string end e last short =
+      let q = quoted_read text 0 string end e in
+      let goal : ℕ → Type 0 = λ n. Quoted text 0 q.0 n in
+      (q.0, subst goal last ((quoted_longest text).sound 0 q.0 end q.1), sym q.2, short)
+
+  pub whole_only : (string : List ℕ) → IsQuotedString text string → reading.quoted_text text 0 ≡ Some (string, length text)
+  whole_only string is =
+      quoted_of 0 is.0 (length text) (ends (quoted_longest text) 0 is.0 (length text) is.1 no_piece_at_end)
+      ∙ ap (λ bytes. Some (let found : List ℕ × ℕ = (bytes, length text) in found)) (sym is.2)

@@ -76,6 +76,11 @@ module _ (text : List ℕ) where
     pub short : All (λ d. length d.text ≤ MAX_STRING_LEN) (all_from next_item (length text) from).0
     pub within : stop ≤ length text
 
+-- The whole text stands in quotes for the string, which has at most 65,535 bytes.
+abbrev pub IsQuotedString : List ℕ → List ℕ → Type 0
+IsQuotedString text string =
+    (tree : (ℕ × (List ℕ × ℕ)) × List (ℕ × (List ℕ × ℕ))) × Quoted text 0 tree (length text) × (string ≡ map as_space (quoted_bytes tree)) × (length string ≤ MAX_STRING_LEN)
+
 -- one of the items is too long for a string
 abbrev pub HasLong : List Datum → Type 0
 HasLong items = All (λ d. length d.text ≤ MAX_STRING_LEN) items → ⊥

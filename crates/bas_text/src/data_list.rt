@@ -3,7 +3,7 @@
 ghost use Rattle.std.specs.Prelude.{◌≡◌, ℕ, ◌+◌, ◌≤◌, ◌<◌, ◌++◌, ◌∷◌, List, map, length, All, IfOk, IfSome, IfNone, MatchOption, OnOk};
 ghost use Rattle.bas_text.specs.Trim.{as_space, trim_right, between};
 ghost use Rattle.bas_text.specs.Reading as reading;
-ghost use Rattle.bas_text.specs.DataItems.{datum, item, next_item, AreItems, IsLongItem, ReadsMore, HasLong};
+ghost use Rattle.bas_text.specs.DataItems.{datum, item, next_item, AreItems, IsLongItem, ReadsMore, HasLong, IsQuotedString};
 ghost use Rattle.bas_form.specs.Reader.{all_from};
 ghost use Rattle.bas_text.specs.declared.data_list.Datum.{Datum};
 
@@ -85,6 +85,22 @@ fn quoted_text(
     copy_bytes(text, at + 1, first - 1, &mut out)?;
     let end = copy_pieces(text, first, &mut out)?;
     Ok(Some((out, end)))
+}
+
+/// The string that a whole text in quotes stands for, with one quote for each doubled one and a space for
+/// each tab, or `None` where the text is not from quote to quote.
+pub fn quoted_string(alloc: Global, text: &[u8]) -> Result<Option<StrVal>, AllocError>
+    ensures found { IfOk result (λ found. IfSome found (λ string. IsQuotedString text.now string)) }
+    ensures only { (string : List ℕ) → IsQuotedString text.now string → IfOk result (λ found. MatchOption found ⊥ (λ f. f ≡ string)) }
+{
+    let Some((bytes, stop)) = quoted_text(alloc, text, 0)? else {
+        return Ok(None);
+    };
+    if stop == text.len() {
+        Ok(StrVal::from_vec(bytes))
+    } else {
+        Ok(None)
+    }
 }
 
 /// The bytes of the item at a place.

@@ -9,7 +9,7 @@ mod byte_string;
 mod data_list;
 
 pub use byte_string::{MAX_STRING_LEN, StrVal, TextFault};
-pub use data_list::{Datum, data_items};
+pub use data_list::{Datum, data_items, quoted_string};
 pub use std::alloc::AllocError as NoMemory;
 
 #[cfg(test)]

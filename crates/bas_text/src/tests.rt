@@ -1,6 +1,6 @@
 //! Strings and lists of data.
 
-use crate::{Datum, StrVal, TextFault, data_items};
+use crate::{Datum, StrVal, TextFault, data_items, quoted_string};
 use std::alloc::Global;
 use std::test::Fail;
 
@@ -66,6 +66,15 @@ fn bytes_past_127_stand_in_quotes_alone(rt: HostRuntime) -> Result<(), Fail> {
     assert!(rt; shown(rt.alloc(), &[34, 200, 34])?.as_slice() == [124, 113, 200].as_slice());
     assert!(rt; shown(rt.alloc(), &[200])?.as_slice() == b"none".as_slice());
     assert!(rt; shown(rt.alloc(), &[34, 7, 34])?.as_slice() == b"none".as_slice());
+    Ok(())
+}
+
+#[test]
+fn text_in_quotes_is_a_string(rt: HostRuntime) -> Result<(), Fail> {
+    let string = quoted_string(rt.alloc(), b"\"say \"\"yes\"\"\"")?.ok_or("a string")?;
+    assert!(rt; string.bytes() == b"say \"yes\"".as_slice());
+    assert!(rt; quoted_string(rt.alloc(), b"\"a\" ")?.is_none());
+    assert!(rt; quoted_string(rt.alloc(), b"\"a\"\"b")?.is_none());
     Ok(())
 }
 
