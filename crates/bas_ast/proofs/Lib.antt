@@ -1,0 +1,11 @@
+pub mod BlockTrees
+pub mod ConditionTrees
+pub mod DeclarationTrees
+pub mod ExpressionTrees
+pub mod FirstLine
+pub mod LineTrees
+pub mod Lone
+pub mod PartTrees
+pub mod RecordTrees
+pub mod StatementTrees
+pub mod UnitTrees
