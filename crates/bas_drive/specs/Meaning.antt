@@ -41,7 +41,7 @@ value_after variables x (term ∷ terms) =
     let y = operand_value variables term.operand in
     and_then (if term.minus then difference_of x y else sum_of x y) (λ z. value_after variables z terms)
 
--- the value of a sum: a minus in front negates its first operand alone
+-- the value of a sum, which has an operand: a minus in front negates its first operand alone
 abbrev pub value_of : Variables → List Term → Result Number DecFault
 value_of variables [] = Ok unset
 value_of variables (term ∷ terms) =
@@ -80,7 +80,7 @@ outcome_at line (Let name sum) variables next = with_result line (value_of varia
 outcome_at line (Print sum) variables next = with_result line (value_of variables sum) (λ x. printing (print_line x) (next variables))
 outcome_at line End variables next = without_output Ended
 
--- the outcome of the lines that are left
+-- the outcome of the lines that are left; a program's last line is END
 unfoldable pub outcome_of : List NumberedItem → Variables → Outcome
 outcome_of [] variables = without_output Ended
 outcome_of (line ∷ lines) variables = outcome_at line.line line.item variables (λ v. outcome_of lines v)

@@ -1,6 +1,8 @@
 //! The table of answers, row by row: when each status is the answer to the words.
 ghost use Rattle.std.specs.Prelude.{◌≡◌, ◌↔◌, ◌⊎◌, ℕ, List, [], ◌∷◌, ◌++◌, None, Some, codes};
 ghost use Rattle.std.specs.FinMap.{get};
+ghost use Rattle.bas_drive.specs.declared.reader.TheConstants.{SOURCE_BYTES};
+ghost use Rattle.bas_drive.specs.declared.words.TheConstants.{WORD_NAME_BYTES};
 ghost use Rattle.bas_world.specs.Files.{Files};
 ghost use Rattle.bas_drive.specs.Answer.{command_of, answer_of, file_answer, program_answer};
 ghost use Rattle.bas_drive.specs.Examples.{file};
@@ -62,4 +64,10 @@ pub fn worked_reports()
     ensures usage { report_of ends.Usage ≡ codes "usage: fullbasic check, compile, link, run, go, list or demo" ++ 10 ∷ [] }
     ensures missing { report_of (Missing (codes "none.bas")) ≡ codes "none.bas: missing" ++ 10 ∷ [] }
     ensures refused { report_of (Refused (codes "a.bas")) ≡ codes "a.bas: refused" ++ 10 ∷ [] }
+{}
+
+/// The limits that the definitions take from the code.
+pub fn limits()
+    ensures source_file { SOURCE_BYTES ≡ 1048576 }
+    ensures word_name { WORD_NAME_BYTES ≡ 64 }
 {}
