@@ -6,7 +6,7 @@ use Rattle.bas_dec.specs.Number.{Number}
 use Rattle.bas_dec.specs.declared.fault.DecFault.{DecFault}
 use Rattle.bas_drive.specs.Answer.{command_of, command_answer, file_answer, program_answer, answer_of, FileEnding}
 use Rattle.bas_drive.specs.Form.{program_of}
-use Rattle.bas_drive.specs.Meaning.{Variables, Outcome, outcome_of, outcome_at, with_result, value_of, with_value, printing, print_line, meaning_of, overflow_at, all_zero}
+use Rattle.bas_drive.specs.Meaning.{Variables, Outcome, outcome_of, outcome_at, with_result, value_of, with_value, printing, print_line, meaning_of, overflow_at, OverflowsIn, all_zero}
 use Rattle.bas_drive.specs.Report.{status_of}
 use Rattle.bas_drive.specs.Run.{RunOf}
 use Rattle.bas_drive.specs.declared.ending.Ending.{Ending}
@@ -15,46 +15,60 @@ use Rattle.bas_drive.specs.declared.status.Status.{Status}
 use Rattle.bas_drive.specs.declared.status.Status.TheVariants as status
 use Rattle.bas_drive.specs.declared.words.Command.{Command}
 use Rattle.bas_drive.specs.declared.words.Command.TheVariants.{Go}
-use Rattle.bas_drive.specs.declared.program.NumItem.{NumItem}
+use Rattle.bas_drive.specs.declared.program.NumberedItem.{NumberedItem}
 use Rattle.bas_drive.specs.declared.program.Item.{Item}
 use Rattle.bas_drive.specs.declared.program.Item.TheVariants.{Let, Print, End}
 
--- the ending of a run: END, or an overflow at a line
-abbrev pub RunEnding : Ending → Type 0
-RunEnding e = (e ≡ ending.Ended) ⊎ ((line : ℕ) × (e ≡ overflow_at line))
+-- the ending of a run: END, or an overflow at one of the lines
+abbrev pub RunEnding : List NumberedItem → Ending → Type 0
+RunEnding lines e = (e ≡ ending.Ended) ⊎ OverflowsIn lines e
 
--- a value or a fault leads to such an ending, if what follows the value does
-after_result : (line : ℕ) (r : Result Number DecFault) (next : Number → Outcome) → ((x : Number) → RunEnding (next x).ending) → RunEnding (with_result line r next).ending
-after_result line (Ok x) next ends = ends x
-after_result line (Err fault) next ends = inr (line, refl)
+-- a value or a fault at the first line leads to such an ending, if what follows the value does
+after_result :
+    (line : NumberedItem) (lines : List NumberedItem) (r : Result Number DecFault) (next : Number → Outcome) → ((x : Number) → RunEnding lines (next x).ending) →
+    RunEnding (line ∷ lines) (with_result line.line r next).ending
+after_result line lines (Ok x) next ends = further (next x).ending (ends x)
+  where
+    further : (e : Ending) → RunEnding lines e → RunEnding (line ∷ lines) e
+    further e (inl ended) = inl ended
+    further e (inr overflows) = inr (inr overflows)
+after_result line lines (Err fault) next ends = inr (inl refl)
 
 -- a line leads to such an ending, if what follows does
-after_line : (line : ℕ) (item : Item) (variables : Variables) (next : Variables → Outcome) → ((v : Variables) → RunEnding (next v).ending) → RunEnding (outcome_at line item variables next).ending
-after_line line (Let name sum) variables next ends = after_result line (value_of variables sum) (λ x. next (with_value variables name x)) (λ x. ends (with_value variables name x))
-after_line line (Print sum) variables next ends = after_result line (value_of variables sum) (λ x. printing (print_line x) (next variables)) (λ x. ends variables)
-after_line line End variables next ends = inl refl
+after_line :
+    (line : NumberedItem) (lines : List NumberedItem) (item : Item) (variables : Variables) (next : Variables → Outcome) → ((v : Variables) → RunEnding lines (next v).ending) →
+    RunEnding (line ∷ lines) (outcome_at line.line item variables next).ending
+after_line line lines (Let name sum) variables next ends = after_result line lines (value_of variables sum) (λ x. next (with_value variables name x)) (λ x. ends (with_value variables name x))
+after_line line lines (Print sum) variables next ends = after_result line lines (value_of variables sum) (λ x. printing (print_line x) (next variables)) (λ x. ends variables)
+after_line line lines End variables next ends = inl refl
 
--- every program ends, or overflows
-pub ends_or_overflows : (program : List NumItem) (variables : Variables) → RunEnding (outcome_of program variables).ending
+-- every program ends, or overflows at one of its lines
+pub ends_or_overflows : (program : List NumberedItem) (variables : Variables) → RunEnding program (outcome_of program variables).ending
 unfolding outcome_of
 ends_or_overflows [] variables = inl refl
-ends_or_overflows (line ∷ lines) variables = after_line line.line line.item variables (λ v. outcome_of lines v) (λ v. ends_or_overflows lines v)
+ends_or_overflows (line ∷ lines) variables = after_line line lines line.item variables (λ v. outcome_of lines v) (λ v. ends_or_overflows lines v)
+
+-- an overflow stops, with this number and this unit
+overflow_stops : (lines : List NumberedItem) (e : Ending) → OverflowsIn lines e → (line : ℕ) × (e ≡ overflow_at line)
+overflow_stops [] e none = absurd none
+overflow_stops (line ∷ lines) e (inl here) = (line.line, here)
+overflow_stops (line ∷ lines) e (inr later) = overflow_stops lines e later
 
 -- no run has such a status
-pub no_run_is : (s : Status) → status.Ended ≢ s → status.Stopped ≢ s → (program : List NumItem) → status_of (meaning_of program).ending ≢ s
+pub no_run_is : (s : Status) → status.Ended ≢ s → status.Stopped ≢ s → (program : List NumberedItem) → status_of (meaning_of program).ending ≢ s
 no_run_is s not_ended not_stopped program is = other (ends_or_overflows program all_zero)
   where
-    other : RunEnding (meaning_of program).ending → ⊥
+    other : RunEnding program (meaning_of program).ending → ⊥
     other (inl ended) = not_ended (ap (λ e. status_of e) (sym ended) ∙ is)
-    other (inr stopped) = not_stopped (ap (λ e. status_of e) (sym stopped.1) ∙ is)
+    other (inr stopped) = not_stopped (ap (λ e. status_of e) (sym (overflow_stops program (meaning_of program).ending stopped).1) ∙ is)
 
 -- a file's text is refused, or run: no other status
-program_is : (s : Status) → status.Ended ≢ s → status.Stopped ≢ s → status.SourceRefused ≢ s → (name : List ℕ) (p : Option (List NumItem)) → status_of (program_answer name p).ending ≢ s
+program_is : (s : Status) → status.Ended ≢ s → status.Stopped ≢ s → status.SourceRefused ≢ s → (name : List ℕ) (p : Option (List NumberedItem)) → status_of (program_answer name p).ending ≢ s
 program_is s not_ended not_stopped not_refused name None is = not_refused is
 program_is s not_ended not_stopped not_refused name (Some program) is = no_run_is s not_ended not_stopped program is
 
 -- only a file that is no program is refused
-refused_only : (name : List ℕ) (p : Option (List NumItem)) → status_of (program_answer name p).ending ≡ status.SourceRefused → p ≡ None
+refused_only : (name : List ℕ) (p : Option (List NumberedItem)) → status_of (program_answer name p).ending ≡ status.SourceRefused → p ≡ None
 refused_only name None is = refl
 refused_only name (Some program) is = absurd (no_run_is status.SourceRefused (λ e. cc) (λ e. cc) program is)
 
@@ -101,21 +115,21 @@ refused_row words files name bytes go there =
     )
 
 pub program_row :
-    (words : List (List ℕ)) (files : Files) (name bytes : List ℕ) (program : List NumItem) → command_of words ≡ Some (Go name) → get files name ≡ Some bytes → program_of bytes ≡ Some program →
+    (words : List (List ℕ)) (files : Files) (name bytes : List ℕ) (program : List NumberedItem) → command_of words ≡ Some (Go name) → get files name ≡ Some bytes → program_of bytes ≡ Some program →
     answer_of words files ≡ meaning_of program
 program_row words files name bytes program go there is_program = at_text words files name bytes go there ∙ ap (λ p. program_answer name p) is_program
 
 -- the ending of a run, or of a refused text, is one that `go` can have
-run_can_end : (name : List ℕ) (e : Ending) → RunEnding e → FileEnding name e
-run_can_end name e (inl ended) = subst (λ v. FileEnding name v) (sym ended) tt
-run_can_end name e (inr stopped) = subst (λ v. FileEnding name v) (sym stopped.1) (refl, refl)
+run_can_end : (name : List ℕ) (program : List NumberedItem) (e : Ending) → RunEnding program e → FileEnding name e
+run_can_end name program e (inl ended) = subst (λ v. FileEnding name v) (sym ended) tt
+run_can_end name program e (inr stopped) = subst (λ v. FileEnding name v) (sym (overflow_stops program e stopped).1) (refl, refl)
 
-program_can_end : (name : List ℕ) (p : Option (List NumItem)) → FileEnding name (program_answer name p).ending
+program_can_end : (name : List ℕ) (p : Option (List NumberedItem)) → FileEnding name (program_answer name p).ending
 program_can_end name None = refl
-program_can_end name (Some program) = run_can_end name (meaning_of program).ending (ends_or_overflows program all_zero)
+program_can_end name (Some program) = run_can_end name program (meaning_of program).ending (ends_or_overflows program all_zero)
 
 -- what a source file's run comes to is one of these endings, too
-pub source_can_end : (name : List ℕ) (p : Option (List NumItem)) (before now : Option (List ℕ)) (e : Ending) → RunOf (program_answer name p) before now e → FileEnding name e
+pub source_can_end : (name : List ℕ) (p : Option (List NumberedItem)) (before now : Option (List ℕ)) (e : Ending) → RunOf (program_answer name p) before now e → FileEnding name e
 source_can_end name p before now ending.StoreFault run = tt
 source_can_end name p before now ending.OutputFault run = tt
 source_can_end name p before now ending.Memory run = tt
@@ -126,5 +140,5 @@ source_can_end name p before now (ending.Missing other) run = subst (λ v. FileE
 source_can_end name p before now (ending.Refused other) run = subst (λ v. FileEnding name v) (sym run.0) (program_can_end name p)
 
 -- what running a program comes to is one of these endings
-pub run_can_end_in : (name : List ℕ) (program : List NumItem) (before now : Option (List ℕ)) (e : Ending) → RunOf (meaning_of program) before now e → FileEnding name e
+pub run_can_end_in : (name : List ℕ) (program : List NumberedItem) (before now : Option (List ℕ)) (e : Ending) → RunOf (meaning_of program) before now e → FileEnding name e
 run_can_end_in name program before now e run = source_can_end name (Some program) before now e run

@@ -4,9 +4,9 @@ use Rattle.std.proofs.lemmas.Bool.{le-ltb, lt-ltb, eqb-true, ne_eqb}
 use Rattle.std.specs.Char.{is_ascii_digit}
 use Rattle.std.specs.List.{prefix_len, position_or_len, before_first, after_first, onto_first}
 use Rattle.bas_drive.specs.declared.program.Item.{Item}
-use Rattle.bas_drive.specs.declared.program.NumItem.{NumItem}
+use Rattle.bas_drive.specs.declared.program.NumberedItem.{NumberedItem}
 use Rattle.bas_drive.specs.Bytes.{is_empty, is_line_end, is_space, lines_of, trimmed}
-use Rattle.bas_drive.specs.Form.{both, numbered, line_number_of, item_of, line_of, all_lines, is_end, is_program_after}
+use Rattle.bas_drive.specs.Form.{map_both, numbered, line_number_of, item_of, line_of, all_lines, is_end, is_program_after}
 use Rattle.bas_drive.specs.Rest.{behind}
 use Rattle.bas_drive.proofs.Behind.{one_more, behind_more}
 
@@ -43,45 +43,45 @@ lines_by [] h = absurd (omega arith)
 lines_by (c ∷ cs) h = lines_first c cs
 
 -- a line that is one, and what is read behind it
-pub next_line : (lines : List NumItem) (rest : List ℕ) (line : NumItem) → 0 < length rest → line_of (before_first is_line_end rest) ≡ Some line →
+pub next_line : (lines : List NumberedItem) (rest : List ℕ) (line : NumberedItem) → 0 < length rest → line_of (before_first is_line_end rest) ≡ Some line →
     behind (lines ++ line ∷ []) (all_lines (lines_of (after_first is_line_end rest))) ≡ behind lines (all_lines (lines_of rest))
 unfolding all_lines
 next_line lines rest line h l =
-    let others : Option (List NumItem) = all_lines (lines_of (after_first is_line_end rest)) in
+    let others : Option (List NumberedItem) = all_lines (lines_of (after_first is_line_end rest)) in
     sym (ap (λ (texts : List (List ℕ)). behind lines (all_lines texts)) (lines_by rest h)
-    ∙ ap (λ (x : Option NumItem). behind lines (both (λ (y : NumItem) (ys : List NumItem). y ∷ ys) x others)) l
+    ∙ ap (λ (x : Option NumberedItem). behind lines (map_both (λ (y : NumberedItem) (ys : List NumberedItem). y ∷ ys) x others)) l
     ∙ behind_more lines line others)
 
 -- a line that is none
-pub no_line : (lines : List NumItem) (rest : List ℕ) → 0 < length rest → line_of (before_first is_line_end rest) ≡ None → None ≡ behind lines (all_lines (lines_of rest))
+pub no_line : (lines : List NumberedItem) (rest : List ℕ) → 0 < length rest → line_of (before_first is_line_end rest) ≡ None → None ≡ behind lines (all_lines (lines_of rest))
 unfolding all_lines
 no_line lines rest h l =
-    let others : Option (List NumItem) = all_lines (lines_of (after_first is_line_end rest)) in
+    let others : Option (List NumberedItem) = all_lines (lines_of (after_first is_line_end rest)) in
     sym (ap (λ (texts : List (List ℕ)). behind lines (all_lines texts)) (lines_by rest h)
-    ∙ ap (λ (x : Option NumItem). behind lines (both (λ (y : NumItem) (ys : List NumItem). y ∷ ys) x others)) l)
+    ∙ ap (λ (x : Option NumberedItem). behind lines (map_both (λ (y : NumberedItem) (ys : List NumberedItem). y ∷ ys) x others)) l)
 
 -- no line is left
-pub lines_end : (lines : List NumItem) (rest : List ℕ) → length rest ≡ 0 → Some lines ≡ behind lines (all_lines (lines_of rest))
+pub lines_end : (lines : List NumberedItem) (rest : List ℕ) → length rest ≡ 0 → Some lines ≡ behind lines (all_lines (lines_of rest))
 unfolding lines_of all_lines
 lines_end lines [] h = ap Some (sym (append-nil lines))
 lines_end lines (c ∷ cs) h = absurd (omega arith)
 
 -- the parts of a line with a space behind its digits
 pub line_parts : (text : List ℕ) (count : ℕ) (digits rest inner : List ℕ) → count ≡ prefix_len is_ascii_digit text → digits ≡ take count text → rest ≡ drop count text → inner ≡ trimmed rest →
-    is_space (get_or rest 0 0) ≡ true → line_of text ≡ both numbered (line_number_of digits) (item_of inner)
+    is_space (get_or rest 0 0) ≡ true → line_of text ≡ map_both numbered (line_number_of digits) (item_of inner)
 line_parts text count digits rest inner n d r i h =
-    ap (λ (n : ℕ). cond (is_space (get_or (drop n text) 0 0)) (both numbered (line_number_of (take n text)) (item_of (trimmed (drop n text)))) None) (sym n)
-    ∙ ap (λ (r : List ℕ). cond (is_space (get_or r 0 0)) (both numbered (line_number_of (take count text)) (item_of (trimmed r))) None) (sym r)
-    ∙ ap (λ (b : Bool). cond b (both numbered (line_number_of (take count text)) (item_of (trimmed rest))) None) h
-    ∙ ap (λ (d : List ℕ). both numbered (line_number_of d) (item_of (trimmed rest))) (sym d)
-    ∙ ap (λ (i : List ℕ). both numbered (line_number_of digits) (item_of i)) (sym i)
+    ap (λ (n : ℕ). cond (is_space (get_or (drop n text) 0 0)) (map_both numbered (line_number_of (take n text)) (item_of (trimmed (drop n text)))) None) (sym n)
+    ∙ ap (λ (r : List ℕ). cond (is_space (get_or r 0 0)) (map_both numbered (line_number_of (take count text)) (item_of (trimmed r))) None) (sym r)
+    ∙ ap (λ (b : Bool). cond b (map_both numbered (line_number_of (take count text)) (item_of (trimmed rest))) None) h
+    ∙ ap (λ (d : List ℕ). map_both numbered (line_number_of d) (item_of (trimmed rest))) (sym d)
+    ∙ ap (λ (i : List ℕ). map_both numbered (line_number_of digits) (item_of i)) (sym i)
 
 -- an item with its number, if both are there
-pub both_there : (number : Option ℕ) (item : Option Item) (n : ℕ) (i : Item) → number ≡ Some n → item ≡ Some i → both numbered number item ≡ Some (record { line = n; item = i })
-both_there number item n i e f = ap (λ (x : Option ℕ). both numbered x item) e ∙ ap (both numbered (Some n)) f
+pub both_there : (number : Option ℕ) (item : Option Item) (n : ℕ) (i : Item) → number ≡ Some n → item ≡ Some i → map_both numbered number item ≡ Some (record { line = n; item = i })
+both_there number item n i e f = ap (λ (x : Option ℕ). map_both numbered x item) e ∙ ap (map_both numbered (Some n)) f
 
-pub no_item : (number : Option ℕ) (item : Option Item) (n : ℕ) → number ≡ Some n → item ≡ None → both numbered number item ≡ None
-no_item number item n e f = ap (λ (x : Option ℕ). both numbered x item) e ∙ ap (both numbered (Some n)) f
+pub no_item : (number : Option ℕ) (item : Option Item) (n : ℕ) → number ≡ Some n → item ≡ None → map_both numbered number item ≡ None
+no_item number item n e f = ap (λ (x : Option ℕ). map_both numbered x item) e ∙ ap (map_both numbered (Some n)) f
 
 pub empty_is : {X : Type 0} → (xs : List X) → eqb (length xs) 0 ≡ is_empty xs
 empty_is [] = refl
@@ -94,28 +94,28 @@ some_left (x ∷ xs) h = omega arith
 pub none_left : (xs : List ℕ) → eqb (length xs) 0 ≡ true → length xs ≡ 0
 none_left xs h = eqb-true (length xs) 0 h
 
-at_line : (number : ℕ) (rest : List NumItem) (line : NumItem) (others : List NumItem) (rises : Bool) → rest ≡ line ∷ others → ltb number line.line ≡ rises →
+at_line : (number : ℕ) (rest : List NumberedItem) (line : NumberedItem) (others : List NumberedItem) (rises : Bool) → rest ≡ line ∷ others → ltb number line.line ≡ rises →
     is_program_after number rest ≡ (rises && cond (is_end line.item) (is_empty others) (is_program_after line.line others))
 unfolding is_program_after
 at_line number rest line others rises r h =
     ap (is_program_after number) r ∙ ap (λ (b : Bool). b && cond (is_end line.item) (is_empty others) (is_program_after line.line others)) h
 
 -- a line whose number is not above the one before it
-pub not_rising : (number : ℕ) (rest : List NumItem) (line : NumItem) (others : List NumItem) → rest ≡ line ∷ others → line.line ≤ number → false ≡ is_program_after number rest
+pub not_rising : (number : ℕ) (rest : List NumberedItem) (line : NumberedItem) (others : List NumberedItem) → rest ≡ line ∷ others → line.line ≤ number → false ≡ is_program_after number rest
 not_rising number rest line others r h = sym (at_line number rest line others false r (le-ltb number line.line h))
 
 -- END, which is to be the last line
-pub at_end : (number : ℕ) (rest : List NumItem) (line : NumItem) (others : List NumItem) → rest ≡ line ∷ others → number < line.line → is_end line.item ≡ true → is_empty others ≡ is_program_after number rest
+pub at_end : (number : ℕ) (rest : List NumberedItem) (line : NumberedItem) (others : List NumberedItem) → rest ≡ line ∷ others → number < line.line → is_end line.item ≡ true → is_empty others ≡ is_program_after number rest
 at_end number rest line others r h e =
     sym (at_line number rest line others true r (lt-ltb number line.line h) ∙ ap (λ (b : Bool). cond b (is_empty others) (is_program_after line.line others)) e)
 
 -- another line
-pub at_other : (number : ℕ) (rest : List NumItem) (line : NumItem) (others : List NumItem) → rest ≡ line ∷ others → number < line.line → is_end line.item ≡ false → is_program_after line.line others ≡ is_program_after number rest
+pub at_other : (number : ℕ) (rest : List NumberedItem) (line : NumberedItem) (others : List NumberedItem) → rest ≡ line ∷ others → number < line.line → is_end line.item ≡ false → is_program_after line.line others ≡ is_program_after number rest
 at_other number rest line others r h e =
     sym (at_line number rest line others true r (lt-ltb number line.line h) ∙ ap (λ (b : Bool). cond b (is_empty others) (is_program_after line.line others)) e)
 
 -- no line is left, and no END came
-pub without_end : (number : ℕ) (rest : List NumItem) → length rest ≡ 0 → false ≡ is_program_after number rest
+pub without_end : (number : ℕ) (rest : List NumberedItem) → length rest ≡ 0 → false ≡ is_program_after number rest
 unfolding is_program_after
 without_end number [] h = refl
 without_end number (line ∷ lines) h = absurd (omega arith)

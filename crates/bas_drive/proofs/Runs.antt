@@ -9,13 +9,13 @@ use Rattle.std.specs.Map.{lookup}
 use Rattle.std.specs.BTreeMap.{is_at}
 use Rattle.bas_dec.specs.Number.{Number}
 use Rattle.bas_drive.specs.Took.{TookAll, TookPrefix}
-use Rattle.bas_drive.specs.Meaning.{Variables, Outcome, unset, all_zero, outcome_of, outcome_at, printing, silent}
+use Rattle.bas_drive.specs.Meaning.{Variables, Outcome, unset, all_zero, outcome_of, outcome_at, printing, without_output}
 use Rattle.bas_drive.specs.Run.{values_in, GoesOn, StepOf, RunOf, is_failure}
 use Rattle.bas_drive.specs.Run.StepOf.{Passes, Comes, Fails}
 use Rattle.bas_drive.specs.declared.ending.Ending.{Ending}
 use Rattle.bas_drive.specs.declared.ending.Ending.TheVariants as ends
 use Rattle.bas_drive.specs.declared.step.Step.TheVariants.{Next, Ends}
-use Rattle.bas_drive.specs.declared.program.NumItem.{NumItem}
+use Rattle.bas_drive.specs.declared.program.NumberedItem.{NumberedItem}
 use Rattle.bas_drive.proofs.Taking.{TookAll-none, TookAll-then, TookPrefix-front, TookPrefix-then}
 
 -- some of the output was taken, and the rest of the outcome is still to come
@@ -34,20 +34,20 @@ pub values_in-empty : (map : BTreeMap (List ℕ) Number) → IsEmpty map → val
 values_in-empty map empty = λ i q. ap (λ es. unwrap_or (lookup (is_at (slice_cmp nat_cmp q)) es) unset) empty i
 
 -- no line is left
-outcome_of-none : (variables : Variables) → outcome_of [] variables ≡ silent ends.Ended
+outcome_of-none : (variables : Variables) → outcome_of [] variables ≡ without_output ends.Ended
 unfolding outcome_of
 outcome_of-none variables = refl
 
 -- a line, and the lines behind it
 outcome_of-line :
-    (line : NumItem) (lines : List NumItem) (variables : Variables) →
+    (line : NumberedItem) (lines : List NumberedItem) (variables : Variables) →
     outcome_of (line ∷ lines) variables ≡ outcome_at line.line line.item variables (λ v. outcome_of lines v)
 unfolding outcome_of
 outcome_of-line line lines variables = refl
 
 -- the line at an index, and the lines behind it
 outcome_of-drop :
-    (program : List NumItem) (i : ℕ) (line : NumItem) (variables : Variables) → i < length program → line ≡ get_or program i line →
+    (program : List NumberedItem) (i : ℕ) (line : NumberedItem) (variables : Variables) → i < length program → line ≡ get_or program i line →
     outcome_of (drop i program) variables ≡ outcome_at line.line line.item variables (λ v. outcome_of (drop (suc i) program) v)
 outcome_of-drop program i line variables lt is_line =
     ap (λ ls. outcome_of ls variables) (drop-cons program i line lt)
@@ -55,7 +55,7 @@ outcome_of-drop program i line variables lt is_line =
 
 -- what is left of the outcome, where the line prints a text and goes on
 goes_on :
-    (program : List NumItem) (i : ℕ) (line : NumItem) (old new : Variables) (text : List ℕ) → i < length program → line ≡ get_or program i line →
+    (program : List NumberedItem) (i : ℕ) (line : NumberedItem) (old new : Variables) (text : List ℕ) → i < length program → line ≡ get_or program i line →
     GoesOn line old new text → outcome_of (drop i program) old ≡ printing text (outcome_of (drop (suc i) program) new)
 goes_on program i line old new text lt is_line goes = outcome_of-drop program i line old lt is_line ∙ goes (λ v. outcome_of (drop (suc i) program) v)
 
@@ -71,7 +71,7 @@ passes whole rest next text before middle now so_far is_rest took = record {
 }
 
 pub Running-next :
-    (whole : Outcome) (program : List NumItem) (i : ℕ) (line : NumItem) (old new : Variables) (before middle now : Option (List ℕ)) →
+    (whole : Outcome) (program : List NumberedItem) (i : ℕ) (line : NumberedItem) (old new : Variables) (before middle now : Option (List ℕ)) →
     i < length program → line ≡ get_or program i line →
     Running whole (outcome_of (drop i program) old) before middle → StepOf line old new middle now Next →
     Running whole (outcome_of (drop (i + 1) program) new) before now
@@ -87,7 +87,7 @@ at_false : (P Q : Type 0) (b : Bool) → b ≡ false → Q → MatchBool b P Q
 at_false P Q b e q = let C : Bool → Type 0 = λ v. MatchBool v P Q in subst C (sym e) q
 
 -- all was taken where no output is left
-all_taken : (whole rest : Outcome) (before now : Option (List ℕ)) (ending : Ending) → Running whole rest before now → rest ≡ silent ending → (ending ≡ whole.ending) × TookAll before now whole.output
+all_taken : (whole rest : Outcome) (before now : Option (List ℕ)) (ending : Ending) → Running whole rest before now → rest ≡ without_output ending → (ending ≡ whole.ending) × TookAll before now whole.output
 all_taken whole rest before now ending so_far is_rest =
     let whole_output : so_far.sent ≡ whole.output = sym (append-nil so_far.sent) ∙ (ap (λ r. so_far.sent ++ r.output) (sym is_rest) ∙ so_far.output) in
     (ap (λ r. r.ending) (sym is_rest) ∙ so_far.ending, subst (λ text. TookAll before now text) whole_output so_far.took)
@@ -101,7 +101,7 @@ some_taken whole rest next text before middle now so_far is_rest some =
     (TookPrefix-then before middle now so_far.sent (text ++ next.output) so_far.took (TookPrefix-front middle now text next.output some))
 
 pub Running-ends :
-    (whole : Outcome) (program : List NumItem) (i : ℕ) (line : NumItem) (old new : Variables) (before middle now : Option (List ℕ)) (ending : Ending) →
+    (whole : Outcome) (program : List NumberedItem) (i : ℕ) (line : NumberedItem) (old new : Variables) (before middle now : Option (List ℕ)) (ending : Ending) →
     i < length program → line ≡ get_or program i line →
     Running whole (outcome_of (drop i program) old) before middle → StepOf line old new middle now (Ends ending) → RunOf whole before now ending
 Running-ends whole program i line old new before middle now ending lt is_line so_far (Comes _ not_failed comes same) =
@@ -114,7 +114,7 @@ Running-ends whole program i line old new before middle now ending lt is_line so
 
 -- the run when no line is left
 pub Running-end :
-    (whole : Outcome) (program : List NumItem) (i : ℕ) (variables : Variables) (before now : Option (List ℕ)) → length program ≤ i →
+    (whole : Outcome) (program : List NumberedItem) (i : ℕ) (variables : Variables) (before now : Option (List ℕ)) → length program ≤ i →
     Running whole (outcome_of (drop i program) variables) before now → (ends.Ended ≡ whole.ending) × TookAll before now whole.output
 Running-end whole program i variables before now le so_far =
     all_taken whole (outcome_of (drop i program) variables) before now ends.Ended so_far (ap (λ ls. outcome_of ls variables) (drop_all i program le) ∙ outcome_of-none variables)

@@ -15,18 +15,18 @@ use Rattle.bas_drive.specs.declared.step.Step.TheVariants.{Next, Ends}
 use Rattle.bas_drive.specs.declared.ending.Ending.{Ending}
 use Rattle.bas_drive.proofs.Taking.{TookAll-none, TookPrefix-none}
 use Rattle.bas_drive.specs.declared.ending.Ending.TheVariants as ends
-use Rattle.bas_drive.specs.declared.program.NumItem.{NumItem}
+use Rattle.bas_drive.specs.declared.program.NumberedItem.{NumberedItem}
 use Rattle.bas_drive.specs.declared.program.Item.{Item}
 use Rattle.bas_drive.specs.declared.program.Item.TheVariants.{Let, Print, End}
 use Rattle.bas_drive.specs.declared.program.Term.{Term}
 
 -- the outcome of a line is that of its item
-at_item : (line : NumItem) (old : Variables) (next : Variables → Outcome) (item : Item) → line.item ≡ item → outcome_at line.line line.item old next ≡ outcome_at line.line item old next
+at_item : (line : NumberedItem) (old : Variables) (next : Variables → Outcome) (item : Item) → line.item ≡ item → outcome_at line.line line.item old next ≡ outcome_at line.line item old next
 at_item line old next item is_item = ap (λ i. outcome_at line.line i old next) is_item
 
 -- LET with a value goes on with it, and prints nothing
 pub let-goes_on :
-    (line : NumItem) (name : List ℕ) (terms : List Term) (old new : Variables) (x : Number) →
+    (line : NumberedItem) (name : List ℕ) (terms : List Term) (old new : Variables) (x : Number) →
     line.item ≡ Let name terms → Ok x ≡ value_of old terms → new ≡ with_value old name x → GoesOn line old new []
 let-goes_on line name terms old new x is_item value set next =
     at_item line old next (Let name terms) is_item
@@ -34,27 +34,27 @@ let-goes_on line name terms old new x is_item value set next =
 
 -- LET without a value stops
 pub let-ends :
-    (line : NumItem) (name : List ℕ) (terms : List Term) (old : Variables) (fault : DecFault) →
+    (line : NumberedItem) (name : List ℕ) (terms : List Term) (old : Variables) (fault : DecFault) →
     line.item ≡ Let name terms → Err fault ≡ value_of old terms → EndsAt line old (overflow_at line.line)
 let-ends line name terms old fault is_item value next =
     at_item line old next (Let name terms) is_item ∙ ap (λ r. with_result line.line r (λ y. next (with_value old name y))) (sym value)
 
 -- PRINT with a value prints its line, and goes on
 pub print-goes_on :
-    (line : NumItem) (terms : List Term) (old : Variables) (x : Number) →
+    (line : NumberedItem) (terms : List Term) (old : Variables) (x : Number) →
     line.item ≡ Print terms → Ok x ≡ value_of old terms → GoesOn line old old (print_line x)
 print-goes_on line terms old x is_item value next =
     at_item line old next (Print terms) is_item ∙ ap (λ r. with_result line.line r (λ y. printing (print_line y) (next old))) (sym value)
 
 -- PRINT without a value stops
 pub print-ends :
-    (line : NumItem) (terms : List Term) (old : Variables) (fault : DecFault) →
+    (line : NumberedItem) (terms : List Term) (old : Variables) (fault : DecFault) →
     line.item ≡ Print terms → Err fault ≡ value_of old terms → EndsAt line old (overflow_at line.line)
 print-ends line terms old fault is_item value next =
     at_item line old next (Print terms) is_item ∙ ap (λ r. with_result line.line r (λ y. printing (print_line y) (next old))) (sym value)
 
 -- END ends
-pub end-ends : (line : NumItem) (old : Variables) → line.item ≡ End → EndsAt line old ends.Ended
+pub end-ends : (line : NumberedItem) (old : Variables) → line.item ≡ End → EndsAt line old ends.Ended
 end-ends line old is_item next = at_item line old next End is_item
 
 -- a choice between two options, and the value behind it
@@ -77,14 +77,14 @@ values_in-insert m n name x gets = λ i q. at q i
 
 -- a line that stops by an overflow
 pub stops :
-    (line : NumItem) (old : Variables) (before : Option (List ℕ)) (ending : Ending) →
+    (line : NumberedItem) (old : Variables) (before : Option (List ℕ)) (ending : Ending) →
     ending ≡ overflow_at line.line → EndsAt line old (overflow_at line.line) → StepOf line old old before before (Ends ending)
 stops line old before ending is_overflow ends =
     subst (λ e. StepOf line old old before before (Ends e)) (sym is_overflow) (Comes (overflow_at line.line) refl ends refl)
 
 -- a LET that has its value
 pub assigns :
-    (line : NumItem) (name : List ℕ) (terms : List Term) (old new : Variables) (x : Number) (before : Option (List ℕ)) (step : Step) →
+    (line : NumberedItem) (name : List ℕ) (terms : List Term) (old new : Variables) (x : Number) (before : Option (List ℕ)) (step : Step) →
     line.item ≡ Let name terms → Ok x ≡ value_of old terms → IsAssigned step old new name x → StepOf line old new before before step
 assigns line name terms old new x before Next is_item value set =
     Passes [] (let-goes_on line name terms old new x is_item value set) (TookAll-none before)
@@ -106,13 +106,13 @@ assigns-counted (Ends ending) old new name x count set = subst (λ e. CountMoves
 
 -- a PRINT that has its value, and whose line was taken
 pub prints :
-    (line : NumItem) (terms : List Term) (old : Variables) (x : Number) (before now : Option (List ℕ)) →
+    (line : NumberedItem) (terms : List Term) (old : Variables) (x : Number) (before now : Option (List ℕ)) →
     line.item ≡ Print terms → Ok x ≡ value_of old terms → TookAll before now (print_line x) → StepOf line old old before now Next
 prints line terms old x before now is_item value took = Passes (print_line x) (print-goes_on line terms old x is_item value) took
 
 -- a PRINT that has its value, and whose line was not taken whole
 pub fails :
-    (line : NumItem) (terms : List Term) (old : Variables) (x : Number) (before now : Option (List ℕ)) (ending : Ending) → is_failure ending ≡ true →
+    (line : NumberedItem) (terms : List Term) (old : Variables) (x : Number) (before now : Option (List ℕ)) (ending : Ending) → is_failure ending ≡ true →
     line.item ≡ Print terms → Ok x ≡ value_of old terms → TookPrefix before now (print_line x) → StepOf line old old before now (Ends ending)
 fails line terms old x before now ending failed is_item value took = Fails ending failed (print_line x) old (print-goes_on line terms old x is_item value) took
 

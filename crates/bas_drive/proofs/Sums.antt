@@ -5,7 +5,7 @@ use Rattle.std.specs.Option.{option_map}
 use Rattle.bas_drive.specs.declared.program.Operand.{Operand}
 use Rattle.bas_drive.specs.declared.program.Term.{Term}
 use Rattle.bas_drive.specs.Bytes.{is_sign, is_blank, is_empty}
-use Rattle.bas_drive.specs.Form.{Piece, both, cut, pieces_of, terms_of, sum_of, operand_of}
+use Rattle.bas_drive.specs.Form.{Piece, map_both, cut, pieces_of, terms_of, sum_of, operand_of}
 use Rattle.bas_drive.specs.Rest.{begins_with_sign, behind}
 use Rattle.bas_drive.proofs.Behind.{one_more, behind_more, behind_none}
 
@@ -51,11 +51,11 @@ pieces_first text =
 term_some : (minus : Bool) (front : List ℕ) (pieces : List Piece) (operand : Operand) → operand_of front ≡ Some operand →
     terms_of ((minus, front) ∷ pieces) ≡ option_map (λ terms. record { minus = minus; operand = operand } ∷ terms) (terms_of pieces)
 unfolding terms_of
-term_some minus front pieces operand o = ap (λ (x : Option Operand). both (λ (y : Operand) (terms : List Term). record { minus = minus; operand = y } ∷ terms) x (terms_of pieces)) o
+term_some minus front pieces operand o = ap (λ (x : Option Operand). map_both (λ (y : Operand) (terms : List Term). record { minus = minus; operand = y } ∷ terms) x (terms_of pieces)) o
 
 term_none : (minus : Bool) (front : List ℕ) (pieces : List Piece) → operand_of front ≡ None → terms_of ((minus, front) ∷ pieces) ≡ None
 unfolding terms_of
-term_none minus front pieces o = ap (λ (x : Option Operand). both (λ (y : Operand) (terms : List Term). record { minus = minus; operand = y } ∷ terms) x (terms_of pieces)) o
+term_none minus front pieces o = ap (λ (x : Option Operand). map_both (λ (y : Operand) (terms : List Term). record { minus = minus; operand = y } ∷ terms) x (terms_of pieces)) o
 
 pieces_at : (text front signed : List ℕ) (leading : Bool) → front ≡ take (place text) text → signed ≡ drop (place text) text → (is_blank front && not (is_empty signed)) ≡ leading →
     pieces_of text ≡ cond leading (cut signed).1 ((false, front) ∷ (cut signed).1)

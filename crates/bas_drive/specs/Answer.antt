@@ -6,16 +6,17 @@ use Rattle.bas_base.specs.Names.{is_file_name}
 use Rattle.bas_world.specs.Files.{Files}
 use Rattle.bas_drive.specs.Bytes.{same_text}
 use Rattle.bas_drive.specs.Form.{program_of}
-use Rattle.bas_drive.specs.Meaning.{Outcome, silent, meaning_of}
-use Rattle.bas_drive.specs.declared.program.NumItem.{NumItem}
+use Rattle.bas_drive.specs.Meaning.{Outcome, without_output, meaning_of}
+use Rattle.bas_drive.specs.declared.words.TheConstants.{WORD_NAME_BYTES}
+use Rattle.bas_drive.specs.declared.program.NumberedItem.{NumberedItem}
 use Rattle.bas_drive.specs.declared.words.Command.{Command}
 use Rattle.bas_drive.specs.declared.words.Command.TheVariants.{Go}
 use Rattle.bas_drive.specs.declared.ending.Ending.{Ending}
 use Rattle.bas_drive.specs.declared.ending.Ending.TheVariants.{Ended, Stopped, Usage, Missing, Refused, StoreFault, OutputFault, Memory}
 
--- the name of a source file: a file name of at most 64 bytes that ends in `.bas`
+-- the name of a source file: a file name that ends in `.bas` and is not too long for a word of the command line
 abbrev pub is_source_name : List ℕ → Bool
-is_source_name name = is_file_name name && (nat_le (length name) 64 && ends_with nat_eq name (codes ".bas"))
+is_source_name name = is_file_name name && (nat_le (length name) WORD_NAME_BYTES && ends_with nat_eq name (codes ".bas"))
 
 -- the command that the words are, or None: `go` and the name of a source file
 abbrev pub command_of : List (List ℕ) → Option Command
@@ -27,18 +28,18 @@ abbrev pub name_of : Command → List ℕ
 name_of (Go name) = name
 
 -- the answer to `go` for a file that is a program or is none
-abbrev pub program_answer : List ℕ → Option (List NumItem) → Outcome
-program_answer name None = silent (Refused name)
+abbrev pub program_answer : List ℕ → Option (List NumberedItem) → Outcome
+program_answer name None = without_output (Refused name)
 program_answer name (Some program) = meaning_of program
 
 -- the answer to `go` for a file that is there or is not
 abbrev pub file_answer : List ℕ → Option (List ℕ) → Outcome
-file_answer name None = silent (Missing name)
+file_answer name None = without_output (Missing name)
 file_answer name (Some bytes) = program_answer name (program_of bytes)
 
 -- the answer to a command
 abbrev pub command_answer : Option Command → Files → Outcome
-command_answer None files = silent Usage
+command_answer None files = without_output Usage
 command_answer (Some (Go name)) files = file_answer name (get files name)
 
 -- the answer to the words: what is printed, and how the command ends

@@ -10,16 +10,17 @@ use Rattle.bas_dec.specs.Numeral.{numeral_of}
 use Rattle.bas_dec.specs.declared.numeral.Numeral.{Numeral}
 use Rattle.bas_dec.specs.declared.numeral.Numeral.TheVariants.{Value, TooLarge, NotNumeral}
 use Rattle.bas_drive.specs.Bytes.{is_empty, is_blank, same_text, is_space, is_sign, is_equals, is_line_end, trimmed, lines_of, spelled}
+use Rattle.bas_drive.specs.declared.reader.TheConstants.{SOURCE_BYTES}
 use Rattle.bas_drive.specs.declared.program.Operand.{Operand}
 use Rattle.bas_drive.specs.declared.program.Operand.TheVariants.{Variable, Constant}
 use Rattle.bas_drive.specs.declared.program.Term.{Term}
 use Rattle.bas_drive.specs.declared.program.Item.{Item}
 use Rattle.bas_drive.specs.declared.program.Item.TheVariants.{Let, Print, End}
-use Rattle.bas_drive.specs.declared.program.NumItem.{NumItem}
+use Rattle.bas_drive.specs.declared.program.NumberedItem.{NumberedItem}
 
 -- f of both values, if both are there
-abbrev pub both : {A B C : Type 0} → (A → B → C) → Option A → Option B → Option C
-both f a b = option_and_then (λ x. option_map (f x) b) a
+abbrev pub map_both : {A B C : Type 0} → (A → B → C) → Option A → Option B → Option C
+map_both f a b = option_and_then (λ x. option_map (f x) b) a
 
 -- the names that no variable may have, though they are spelled like names
 abbrev pub reserved_words : List (List ℕ)
@@ -80,7 +81,7 @@ pieces_of text =
 unfoldable pub terms_of : List Piece → Option (List Term)
 terms_of [] = Some []
 terms_of (piece ∷ pieces) =
-    both (λ operand terms. record { minus = piece.0; operand = operand } ∷ terms) (operand_of piece.1) (terms_of pieces)
+    map_both (λ operand terms. record { minus = piece.0; operand = operand } ∷ terms) (operand_of piece.1) (terms_of pieces)
 
 -- a sum: operands with a plus or a minus between them, and perhaps one in front
 abbrev pub sum_of : List ℕ → Option (List Term)
@@ -90,7 +91,7 @@ sum_of text = terms_of (pieces_of text)
 abbrev pub assignment_of : List ℕ → Option Item
 assignment_of text =
     if list_any is_equals text
-    then both Let (variable_of (trimmed (before_first is_equals text))) (sum_of (after_first is_equals text))
+    then map_both Let (variable_of (trimmed (before_first is_equals text))) (sum_of (after_first is_equals text))
     else None
 
 -- what PRINT prints: a sum
@@ -115,20 +116,20 @@ line_number_of digits =
     if nat_le (length digits) 8 && (nat_le 1 number && nat_le number 99999) then Some number else None
 
 -- an item with the number of its line
-abbrev pub numbered : ℕ → Item → NumItem
+abbrev pub numbered : ℕ → Item → NumberedItem
 numbered number item = record { line = number; item = item }
 
 -- a line: a line number, one or more spaces, and an item; spaces may end it
-abbrev pub line_of : List ℕ → Option NumItem
+abbrev pub line_of : List ℕ → Option NumberedItem
 line_of text =
     let count = prefix_len is_ascii_digit text in
     let rest = drop count text in
-    if is_space (slice_index rest 0) then both numbered (line_number_of (take count text)) (item_of (trimmed rest)) else None
+    if is_space (slice_index rest 0) then map_both numbered (line_number_of (take count text)) (item_of (trimmed rest)) else None
 
 -- each text as a line, if each is one
-unfoldable pub all_lines : List (List ℕ) → Option (List NumItem)
+unfoldable pub all_lines : List (List ℕ) → Option (List NumberedItem)
 all_lines [] = Some []
-all_lines (text ∷ texts) = both (λ line lines. line ∷ lines) (line_of text) (all_lines texts)
+all_lines (text ∷ texts) = map_both (λ line lines. line ∷ lines) (line_of text) (all_lines texts)
 
 -- END
 abbrev pub is_end : Item → Bool
@@ -137,7 +138,7 @@ is_end (Print sum) = false
 is_end End = true
 
 -- the numbers rise from above the given one, and END is the last line and no other
-unfoldable pub is_program_after : ℕ → List NumItem → Bool
+unfoldable pub is_program_after : ℕ → List NumberedItem → Bool
 is_program_after number [] = false
 is_program_after number (line ∷ lines) =
     nat_lt number line.line && (if is_end line.item then is_empty lines else is_program_after line.line lines)
@@ -147,12 +148,12 @@ abbrev pub is_source_byte : ℕ → Bool
 is_source_byte c = is_line_end c || ((nat_le 32 c && nat_le c 126) && not (c == 33))
 
 -- a program: its lines, with numbers that rise strictly and END at their end alone
-abbrev pub checked : List NumItem → Option (List NumItem)
-checked lines = if is_program_after 0 lines then Some lines else None
+abbrev pub numbered_and_ended : List NumberedItem → Option (List NumberedItem)
+numbered_and_ended lines = if is_program_after 0 lines then Some lines else None
 
--- the program that a file of at most 1,048,576 bytes is, if it is of the form
-abbrev pub program_of : List ℕ → Option (List NumItem)
+-- the program that a file is: one that is not too long, if it is of the form
+abbrev pub program_of : List ℕ → Option (List NumberedItem)
 program_of bytes =
-    if nat_le (length bytes) 1048576 && list_all is_source_byte bytes
-    then option_and_then checked (all_lines (lines_of bytes))
+    if nat_le (length bytes) SOURCE_BYTES && list_all is_source_byte bytes
+    then option_and_then numbered_and_ended (all_lines (lines_of bytes))
     else None

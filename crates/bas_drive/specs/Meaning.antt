@@ -1,5 +1,5 @@
 -- What a program means: its output and how it ends.
-use Rattle.std.specs.Prelude.{ℕ, if◌then◌else◌, List, [], ◌∷◌, ◌++◌, Result, Ok, Err, pos, codes}
+use Rattle.std.specs.Prelude.{◌≡◌, ◌⊎◌, ℕ, if◌then◌else◌, List, [], ◌∷◌, ◌++◌, Result, Ok, Err, pos, codes}
 use Rattle.bas_dec.specs.Number.{Number}
 use Rattle.bas_dec.specs.Arithmetic.{sum_of, difference_of, negated, and_then}
 use Rattle.bas_dec.specs.Text.{text_of}
@@ -12,7 +12,7 @@ use Rattle.bas_drive.specs.declared.program.Item.{Item}
 use Rattle.bas_drive.specs.declared.program.Item.TheVariants.{Let, Print, End}
 use Rattle.bas_drive.specs.declared.ending.Ending.{Ending}
 use Rattle.bas_drive.specs.declared.ending.Ending.TheVariants.{Ended, Stopped}
-use Rattle.bas_drive.specs.declared.program.NumItem.{NumItem}
+use Rattle.bas_drive.specs.declared.program.NumberedItem.{NumberedItem}
 
 -- the value of a variable that was not set: 0
 abbrev pub unset : Number
@@ -41,7 +41,7 @@ value_after variables x (term ∷ terms) =
     let y = operand_value variables term.operand in
     and_then (if term.minus then difference_of x y else sum_of x y) (λ z. value_after variables z terms)
 
--- the value of a sum: a minus in front negates its first operand alone
+-- the value of a sum, which has an operand: a minus in front negates its first operand alone
 abbrev pub value_of : Variables → List Term → Result Number DecFault
 value_of variables [] = Ok unset
 value_of variables (term ∷ terms) =
@@ -54,8 +54,8 @@ pub record Outcome : Type 0 where
   pub ending : Ending
 
 -- an ending without output
-abbrev pub silent : Ending → Outcome
-silent ending = record { output = []; ending = ending }
+abbrev pub without_output : Ending → Outcome
+without_output ending = record { output = []; ending = ending }
 
 -- a stop by the exception of an overflow at a line
 abbrev pub overflow_at : ℕ → Ending
@@ -64,7 +64,7 @@ overflow_at line = Stopped (record { ex = 1002; line = line; unit = codes "MAIN"
 -- the outcome that goes on from a value, or the stop at the line where there is none
 abbrev pub with_result : ℕ → Result Number DecFault → (Number → Outcome) → Outcome
 with_result line (Ok x) next = next x
-with_result line (Err fault) next = silent (overflow_at line)
+with_result line (Err fault) next = without_output (overflow_at line)
 
 -- a text, and then what the rest prints
 abbrev pub printing : List ℕ → Outcome → Outcome
@@ -78,13 +78,18 @@ print_line x = text_of x ++ 10 ∷ []
 abbrev pub outcome_at : ℕ → Item → Variables → (Variables → Outcome) → Outcome
 outcome_at line (Let name sum) variables next = with_result line (value_of variables sum) (λ x. next (with_value variables name x))
 outcome_at line (Print sum) variables next = with_result line (value_of variables sum) (λ x. printing (print_line x) (next variables))
-outcome_at line End variables next = silent Ended
+outcome_at line End variables next = without_output Ended
 
--- the outcome of the lines that are left
-unfoldable pub outcome_of : List NumItem → Variables → Outcome
-outcome_of [] variables = silent Ended
+-- the outcome of the lines that are left; a program's last line is END
+unfoldable pub outcome_of : List NumberedItem → Variables → Outcome
+outcome_of [] variables = without_output Ended
 outcome_of (line ∷ lines) variables = outcome_at line.line line.item variables (λ v. outcome_of lines v)
 
 -- the meaning of a program
-abbrev pub meaning_of : List NumItem → Outcome
+abbrev pub meaning_of : List NumberedItem → Outcome
 meaning_of program = outcome_of program all_zero
+
+-- the ending is an overflow at one of these lines
+abbrev pub OverflowsIn : List NumberedItem → Ending → Type 0
+OverflowsIn [] ending = ⊥
+OverflowsIn (line ∷ lines) ending = (ending ≡ overflow_at line.line) ⊎ OverflowsIn lines ending

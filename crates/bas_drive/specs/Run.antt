@@ -6,9 +6,9 @@ use Rattle.std.specs.BTreeMap.{BTreeMap, get}
 use Rattle.bas_dec.specs.Number.{Number}
 use Rattle.bas_world.specs.declared.store.StoreFail.{StoreFail}
 use Rattle.bas_world.specs.declared.store.StoreFail.TheVariants as store
-use Rattle.bas_drive.specs.Meaning.{Variables, Outcome, unset, outcome_at, printing, silent, with_value}
+use Rattle.bas_drive.specs.Meaning.{Variables, Outcome, unset, outcome_at, printing, without_output, with_value}
 use Rattle.bas_drive.specs.Took.{TookAll, TookPrefix}
-use Rattle.bas_drive.specs.declared.program.NumItem.{NumItem}
+use Rattle.bas_drive.specs.declared.program.NumberedItem.{NumberedItem}
 use Rattle.bas_drive.specs.declared.ending.Ending.{Ending}
 use Rattle.bas_drive.specs.declared.ending.Ending.TheVariants as ends
 use Rattle.bas_drive.specs.declared.step.Step.{Step}
@@ -62,15 +62,15 @@ IsAssigned Next old new name x = new ≡ with_value old name x
 IsAssigned (Ends ending) old new name x = ending ≡ ends.Memory
 
 -- a line prints a text, and what follows goes on with these variables
-abbrev pub GoesOn : NumItem → Variables → Variables → List ℕ → Type 0
+abbrev pub GoesOn : NumberedItem → Variables → Variables → List ℕ → Type 0
 GoesOn line old new text = (next : Variables → Outcome) → outcome_at line.line line.item old next ≡ printing text (next new)
 
 -- a line ends the run with this ending
-abbrev pub EndsAt : NumItem → Variables → Ending → Type 0
-EndsAt line old ending = (next : Variables → Outcome) → outcome_at line.line line.item old next ≡ silent ending
+abbrev pub EndsAt : NumberedItem → Variables → Ending → Type 0
+EndsAt line old ending = (next : Variables → Outcome) → outcome_at line.line line.item old next ≡ without_output ending
 
 -- what running one line does: it goes on, or it ends the run, or it fails with some of its text taken
-pub data StepOf (line : NumItem) (old new : Variables) (before now : Option (List ℕ)) : Step → Type 0 where
+pub data StepOf (line : NumberedItem) (old new : Variables) (before now : Option (List ℕ)) : Step → Type 0 where
   Passes : (text : List ℕ) → GoesOn line old new text → TookAll before now text → StepOf line old new before now Next
   Comes : (ending : Ending) → is_failure ending ≡ false → EndsAt line old ending → now ≡ before → StepOf line old new before now (Ends ending)
   Fails : (ending : Ending) → is_failure ending ≡ true → (text : List ℕ) (after : Variables) → GoesOn line old after text → TookPrefix before now text → StepOf line old new before now (Ends ending)

@@ -25,7 +25,7 @@ pub enum Item {
 
 /// A line of a program with its number.
 #[derive(Debug, Drop)]
-pub struct NumItem {
+pub struct NumberedItem {
     pub line: Line,
     pub item: Item,
 }

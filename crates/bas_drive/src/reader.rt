@@ -9,17 +9,17 @@ mod sum;
 mod text;
 mod words;
 
-use crate::program::NumItem;
+use crate::program::NumberedItem;
 use bas_base::Seq;
 use lines::{all_lines, is_program};
 use std::alloc::{AllocError, Global};
 use text::has_source_bytes;
 
-// The most bytes of a source file.
-const SOURCE_BYTES: usize = 1048576;
+/// The most bytes of a source file.
+pub const SOURCE_BYTES: usize = 1_048_576;
 
 /// The program that the bytes of a file are, or `None` where they are none.
-pub fn program(alloc: Global, bytes: &[u8]) -> Result<Option<Seq<NumItem>>, AllocError>
+pub fn program(alloc: Global, bytes: &[u8]) -> Result<Option<Seq<NumberedItem>>, AllocError>
     ensures { IfOk result (λ program. program ≡ program_of bytes.now) }
 {
     if bytes.len() > SOURCE_BYTES || !has_source_bytes(bytes) {

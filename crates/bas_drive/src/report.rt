@@ -72,7 +72,7 @@ fn report_of(alloc: Global, ending: &Ending) -> Result<Vec<u8>, AllocError>
 }
 
 /// Writes the report line of an ending, and answers its status.
-pub fn tell<E: Sink>(alloc: Global, ending: Ending, report: &mut E) -> Status
+pub fn write_report<E: Sink>(alloc: Global, ending: Ending, report: &mut E) -> Status
     ensures told { IsTold ending (E.taken report.old) (E.taken report.new) result }
     ensures counted { CountMoves (is_report_fault result) (E.faults report.old) (E.faults report.new) }
 {

@@ -4,14 +4,14 @@ ghost use Rattle.bas_drive.specs.Meaning.{meaning_of};
 ghost use Rattle.bas_drive.specs.Run.{RunOf, is_output_fault, is_store_fault};
 
 use crate::ending::Ending;
-use crate::program::NumItem;
+use crate::program::NumberedItem;
 use crate::step::{Step, run_line};
 use bas_world::Sink;
 use std::alloc::Global;
 use std::collections::BTreeMap;
 
 /// Runs a program.
-pub fn run<O: Sink>(alloc: Global, program: &[NumItem], out: &mut O) -> Ending
+pub fn run<O: Sink>(alloc: Global, program: &[NumberedItem], out: &mut O) -> Ending
     ensures does { RunOf (meaning_of program.now) (O.taken out.old) (O.taken out.new) result }
     ensures counted { CountMoves (is_output_fault result) (O.faults out.old) (O.faults out.new) }
     ensures store { is_store_fault result ≡ false }

@@ -9,7 +9,7 @@ ghost use Rattle.bas_drive.specs.Meaning.{unset, operand_value, value_of, value_
 ghost use Rattle.bas_drive.specs.Run.{values_in, IsAssigned, StepOf, is_output_fault, is_store_fault, step_is};
 
 use crate::ending::Ending;
-use crate::program::{Item, NumItem, Operand, Term};
+use crate::program::{Item, NumberedItem, Operand, Term};
 use crate::write::write_all;
 use bas_base::{Ex, ExAt, Line, Name};
 use bas_dec::{Dec, DecFault};
@@ -106,7 +106,7 @@ fn assign(values: &mut BTreeMap<Name, Dec>, name: Name, x: Dec) -> Step
 }
 
 /// Runs one line.
-pub fn run_line<O: Sink>(line: &NumItem, values: &mut BTreeMap<Name, Dec>, out: &mut O) -> Step
+pub fn run_line<O: Sink>(line: &NumberedItem, values: &mut BTreeMap<Name, Dec>, out: &mut O) -> Step
     ensures does { StepOf line.now (values_in values.old) (values_in values.new) (O.taken out.old) (O.taken out.new) result }
     ensures counted { CountMoves (step_is is_output_fault result) (O.faults out.old) (O.faults out.new) }
     ensures store { step_is is_store_fault result ≡ false }

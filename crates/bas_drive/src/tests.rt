@@ -1,10 +1,16 @@
+ghost use Rattle.std.specs.Prelude.{◌≢◌, map, string_bytes, Some};
+ghost use Rattle.bas_drive.specs.Answer.{answer_of};
+ghost use Rattle.bas_drive.specs.Headline.{IsAnswered};
+
 use super::*;
 use bas_base::FileName;
 use bas_world::{MemSink, MemSource, MemStore, SureSink, SureSource, SureStore};
 use std::alloc::{AllocError, Global};
+use std::process::Abort;
 use std::test::Fail;
 
 // A program, and what `go` answers to it.
+#[derive(Clone, Copy)]
 struct Case {
     text: &'static [u8],
     status: Status,
@@ -12,7 +18,7 @@ struct Case {
     report: &'static [u8],
 }
 
-const CASES: [Case; 37] = [
+const PROGRAMS: [Case; 10] = [
     Case {
         text: b"10 LET A = 2\n20 LET B = A + 40\n30 PRINT B - 50\n40 END\n",
         status: Status::Ended,
@@ -68,173 +74,42 @@ const CASES: [Case; 37] = [
         report: b"exception 1002 at line 20 of MAIN\n",
     },
     Case {
-        text: b"10 PRINT 999999999999999999999999999999999999999\n20 END\n",
-        status: Status::SourceRefused,
-        output: b"",
-        report: b"a.bas: refused\n",
-    },
-    Case {
-        text: b"10 PRINT 1.5\n20 END\n",
-        status: Status::SourceRefused,
-        output: b"",
-        report: b"a.bas: refused\n",
-    },
-    Case {
-        text: b"",
-        status: Status::SourceRefused,
-        output: b"",
-        report: b"a.bas: refused\n",
-    },
-    Case {
-        text: b"\n",
-        status: Status::SourceRefused,
-        output: b"",
-        report: b"a.bas: refused\n",
-    },
-    Case {
-        text: b"10 END\n20 END\n",
-        status: Status::SourceRefused,
-        output: b"",
-        report: b"a.bas: refused\n",
-    },
-    Case {
-        text: b"10 END\n20 PRINT 1\n",
-        status: Status::SourceRefused,
-        output: b"",
-        report: b"a.bas: refused\n",
-    },
-    Case {
-        text: b"10 PRINT 1\n",
-        status: Status::SourceRefused,
-        output: b"",
-        report: b"a.bas: refused\n",
-    },
-    Case {
-        text: b"10 PRINT 1\n10 END\n",
-        status: Status::SourceRefused,
-        output: b"",
-        report: b"a.bas: refused\n",
-    },
-    Case {
-        text: b"20 PRINT 1\n10 END\n",
-        status: Status::SourceRefused,
-        output: b"",
-        report: b"a.bas: refused\n",
-    },
-    Case {
-        text: b"0 END\n",
-        status: Status::SourceRefused,
-        output: b"",
-        report: b"a.bas: refused\n",
-    },
-    Case {
-        text: b"100000 END\n",
-        status: Status::SourceRefused,
-        output: b"",
-        report: b"a.bas: refused\n",
-    },
-    Case {
-        text: b"000000010 END\n",
-        status: Status::SourceRefused,
-        output: b"",
-        report: b"a.bas: refused\n",
-    },
-    Case {
-        text: b" 10 END\n",
-        status: Status::SourceRefused,
-        output: b"",
-        report: b"a.bas: refused\n",
-    },
-    Case {
-        text: b"10END\n",
-        status: Status::SourceRefused,
-        output: b"",
-        report: b"a.bas: refused\n",
-    },
-    Case {
-        text: b"10 LETA = 1\n20 END\n",
-        status: Status::SourceRefused,
-        output: b"",
-        report: b"a.bas: refused\n",
-    },
-    Case {
-        text: b"10 LET A$ = 1\n20 END\n",
-        status: Status::SourceRefused,
-        output: b"",
-        report: b"a.bas: refused\n",
-    },
-    Case {
-        text: b"10 LET PRINT = 1\n20 END\n",
-        status: Status::SourceRefused,
-        output: b"",
-        report: b"a.bas: refused\n",
-    },
-    Case {
-        text: b"10 LET ABS = 1\n20 END\n",
-        status: Status::SourceRefused,
-        output: b"",
-        report: b"a.bas: refused\n",
-    },
-    Case {
-        text: b"10 LET ABBBBBBBBBBBBBBBBBBBBBBBBBBBBBBB = 1\n20 END\n",
-        status: Status::SourceRefused,
-        output: b"",
-        report: b"a.bas: refused\n",
-    },
-    Case {
         text: b"10 LET ABBBBBBBBBBBBBBBBBBBBBBBBBBBBBB = 1\n20 END\n",
         status: Status::Ended,
         output: b"",
         report: b"",
     },
-    Case {
-        text: b"10 LET A 1\n20 END\n",
-        status: Status::SourceRefused,
-        output: b"",
-        report: b"a.bas: refused\n",
-    },
-    Case {
-        text: b"10 PRINT 1 + \n20 END\n",
-        status: Status::SourceRefused,
-        output: b"",
-        report: b"a.bas: refused\n",
-    },
-    Case {
-        text: b"10 PRINT 1 2\n20 END\n",
-        status: Status::SourceRefused,
-        output: b"",
-        report: b"a.bas: refused\n",
-    },
-    Case {
-        text: b"10 PRINT\n20 END\n",
-        status: Status::SourceRefused,
-        output: b"",
-        report: b"a.bas: refused\n",
-    },
-    Case {
-        text: b"10 PRINT 1\t\n20 END\n",
-        status: Status::SourceRefused,
-        output: b"",
-        report: b"a.bas: refused\n",
-    },
-    Case {
-        text: b"10 PRINT 1\r\n20 END\n",
-        status: Status::SourceRefused,
-        output: b"",
-        report: b"a.bas: refused\n",
-    },
-    Case {
-        text: b"10 PRINT 1 !\n20 END\n",
-        status: Status::SourceRefused,
-        output: b"",
-        report: b"a.bas: refused\n",
-    },
-    Case {
-        text: b"10 END \x80\n",
-        status: Status::SourceRefused,
-        output: b"",
-        report: b"a.bas: refused\n",
-    },
+];
+
+// Files that are no programs.
+const REFUSED: [&[u8]; 27] = [
+    b"10 PRINT 999999999999999999999999999999999999999\n20 END\n",
+    b"10 PRINT 1.5\n20 END\n",
+    b"",
+    b"\n",
+    b"10 END\n20 END\n",
+    b"10 END\n20 PRINT 1\n",
+    b"10 PRINT 1\n",
+    b"10 PRINT 1\n10 END\n",
+    b"20 PRINT 1\n10 END\n",
+    b"0 END\n",
+    b"100000 END\n",
+    b"000000010 END\n",
+    b" 10 END\n",
+    b"10END\n",
+    b"10 LETA = 1\n20 END\n",
+    b"10 LET A$ = 1\n20 END\n",
+    b"10 LET PRINT = 1\n20 END\n",
+    b"10 LET ABS = 1\n20 END\n",
+    b"10 LET ABBBBBBBBBBBBBBBBBBBBBBBBBBBBBBB = 1\n20 END\n",
+    b"10 LET A 1\n20 END\n",
+    b"10 PRINT 1 + \n20 END\n",
+    b"10 PRINT 1 2\n20 END\n",
+    b"10 PRINT\n20 END\n",
+    b"10 PRINT 1\t\n20 END\n",
+    b"10 PRINT 1\r\n20 END\n",
+    b"10 PRINT 1 !\n20 END\n",
+    b"10 END \x80\n",
 ];
 
 fn words(alloc: Global, texts: &[&str]) -> Result<Vec<String>, AllocError> {
@@ -249,28 +124,53 @@ fn file_name() -> Result<FileName, Fail> {
     Ok(FileName::of(b"a.bas").ok().ok_or("no file name")?)
 }
 
+// What `go a.bas` comes to over objects that never fail: the answer, or want of memory.
+fn sure_answer(
+    alloc: Global,
+    words: &[String],
+    store: &mut SureStore,
+    out: &mut SureSink,
+    report: &mut SureSink,
+) -> Status
+    ensures { result ≢ Status.Memory →
+        IsAnswered (answer_of (map string_bytes words.now) store.old) (Some out.old) (Some out.new) (Some report.old) (Some report.new) result }
+{
+    let mut input = SureSource::new(Vec::new(alloc));
+    basic_words(alloc, words, store, &mut input, out, report)
+}
+
+fn check_case(rt: &impl Abort, alloc: Global, case: &Case) -> Result<(), Fail> {
+    let words = words(alloc, &["go", "a.bas"])?;
+    let mut store = SureStore::new(alloc);
+    store.put(file_name()?, case.text)?;
+    let mut out = SureSink::new(alloc);
+    let mut report = SureSink::new(alloc);
+    let status = sure_answer(alloc, words.as_slice(), &mut store, &mut out, &mut report);
+    assert_eq!(rt; status, case.status);
+    assert_eq!(rt; out.bytes(), case.output);
+    assert_eq!(rt; report.bytes(), case.report);
+    assert_eq!(rt; store.get(file_name()?), Some(case.text));
+    Ok(())
+}
+
 #[test]
 fn programs(rt: HostRuntime) -> Result<(), Fail> {
-    let alloc = rt.alloc();
-    let words = words(alloc, &["go", "a.bas"])?;
-    for case in &CASES {
-        let mut store = SureStore::new(alloc);
-        store.put(file_name()?, case.text)?;
-        let mut input = SureSource::new(Vec::new(alloc));
-        let mut out = SureSink::new(alloc);
-        let mut report = SureSink::new(alloc);
-        let status = basic_words(
-            alloc,
-            words.as_slice(),
-            &mut store,
-            &mut input,
-            &mut out,
-            &mut report,
-        );
-        assert_eq!(rt; status, case.status);
-        assert_eq!(rt; out.bytes(), case.output);
-        assert_eq!(rt; report.bytes(), case.report);
-        assert_eq!(rt; store.get(file_name()?), Some(case.text));
+    for case in &PROGRAMS {
+        check_case(&rt, rt.alloc(), case)?;
+    }
+    Ok(())
+}
+
+#[test]
+fn refused_files(rt: HostRuntime) -> Result<(), Fail> {
+    for text in REFUSED {
+        let case = Case {
+            text,
+            status: Status::SourceRefused,
+            output: b"",
+            report: b"a.bas: refused\n",
+        };
+        check_case(&rt, rt.alloc(), &case)?;
     }
     Ok(())
 }

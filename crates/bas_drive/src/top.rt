@@ -11,17 +11,14 @@ ghost use Rattle.bas_drive.specs.Run.{RunOf, is_output_fault, is_store_fault, st
 
 use crate::ending::Ending;
 use crate::file::read_file;
-use crate::reader;
-use crate::report::tell;
+use crate::reader::{self, SOURCE_BYTES};
+use crate::report::write_report;
 use crate::run::run;
 use crate::status::Status;
 use crate::words::{Command, command_of};
 use bas_base::FileName;
 use bas_world::{Sink, Source, Store, StoreFail};
 use std::alloc::Global;
-
-/// The most bytes of a source file.
-const SOURCE_BYTES: u64 = 1_048_576;
 
 // The ending of a command whose store failed.
 fn store_ending(fail: StoreFail) -> Ending
@@ -57,14 +54,15 @@ fn run_sized<S: Store, O: Sink>(
 ) -> Ending
     requires short { length name ≤ S.longest store.old }
     requires size { IfSome (S.files store.old) (λ files. size_of files name ≡ Some size) }
-    ensures does { IfSome (S.files store.old) (λ files. RunOf (file_answer name (get files name)) (O.taken out.old) (O.taken out.new) result) }
+    ensures does { IfSome (S.files store.old) (λ files.
+        RunOf (file_answer name (get files name)) (O.taken out.old) (O.taken out.new) result) }
     ensures output { CountMoves (is_output_fault result) (O.faults out.old) (O.faults out.new) }
     ensures store { CountMoves (is_store_fault result) (S.faults store.old) (S.faults store.new) }
     ensures unchanged { S.files store.new ≡ S.files store.old }
     ensures ends { FileEnding name result }
     ensures longest { S.longest store.new ≡ S.longest store.old }
 {
-    if size > SOURCE_BYTES {
+    if size > SOURCE_BYTES as u64 {
         return Ending::Refused(name);
     }
     match read_file(alloc, store, name, size as usize) {
@@ -76,7 +74,8 @@ fn run_sized<S: Store, O: Sink>(
 // Runs the program in a file.
 fn go<S: Store, O: Sink>(alloc: Global, name: FileName, store: &mut S, out: &mut O) -> Ending
     requires { length name ≤ S.longest store.old }
-    ensures does { IfSome (S.files store.old) (λ files. RunOf (file_answer name (get files name)) (O.taken out.old) (O.taken out.new) result) }
+    ensures does { IfSome (S.files store.old) (λ files.
+        RunOf (file_answer name (get files name)) (O.taken out.old) (O.taken out.new) result) }
     ensures output { CountMoves (is_output_fault result) (O.faults out.old) (O.faults out.new) }
     ensures store { CountMoves (is_store_fault result) (S.faults store.old) (S.faults store.new) }
     ensures unchanged { S.files store.new ≡ S.files store.old }
@@ -91,9 +90,15 @@ fn go<S: Store, O: Sink>(alloc: Global, name: FileName, store: &mut S, out: &mut
 }
 
 // Does what a command asks.
-fn obey<S: Store, O: Sink>(alloc: Global, command: Command, store: &mut S, out: &mut O) -> Ending
+fn run_command<S: Store, O: Sink>(
+    alloc: Global,
+    command: Command,
+    store: &mut S,
+    out: &mut O,
+) -> Ending
     requires { length (name_of command) ≤ S.longest store.old }
-    ensures does { IfSome (S.files store.old) (λ files. RunOf (command_answer (Some command) files) (O.taken out.old) (O.taken out.new) result) }
+    ensures does { IfSome (S.files store.old) (λ files.
+        RunOf (command_answer (Some command) files) (O.taken out.old) (O.taken out.new) result) }
     ensures output { CountMoves (is_output_fault result) (O.faults out.old) (O.faults out.new) }
     ensures store { CountMoves (is_store_fault result) (S.faults store.old) (S.faults store.new) }
     ensures unchanged { S.files store.new ≡ S.files store.old }
@@ -108,17 +113,20 @@ fn obey<S: Store, O: Sink>(alloc: Global, command: Command, store: &mut S, out: 
 // Does what the words ask, and leaves the report to be written.
 fn perform<S: Store, O: Sink>(alloc: Global, words: &[String], store: &mut S, out: &mut O) -> Ending
     requires { S.longest store.old ≡ 68 }
-    ensures does { IfSome (S.files store.old) (λ files. RunOf (answer_of (map string_bytes words.now) files) (O.taken out.old) (O.taken out.new) result) }
+    ensures does { IfSome (S.files store.old) (λ files.
+        RunOf (answer_of (map string_bytes words.now) files) (O.taken out.old) (O.taken out.new) result) }
     ensures output { CountMoves (is_output_fault result) (O.faults out.old) (O.faults out.new) }
     ensures store { CountMoves (is_store_fault result) (S.faults store.old) (S.faults store.new) }
     ensures unchanged { S.files store.new ≡ S.files store.old }
     ensures ends { CanEnd (command_of (map string_bytes words.now)) result }
-    ensures idle { command_of (map string_bytes words.now) ≡ None → IsIdle (O.taken out.old) (O.taken out.new) (O.faults out.old) (O.faults out.new) (S.faults store.old) (S.faults store.new) }
+    ensures idle { command_of (map string_bytes words.now) ≡ None →
+        IsIdle (O.taken out.old) (O.taken out.new) (O.faults out.old) (O.faults out.new)
+        (S.faults store.old) (S.faults store.new) }
     ensures longest { S.longest store.new ≡ S.longest store.old }
 {
     match command_of(words) {
         None => Ending::Usage,
-        Some(command) => obey(alloc, command, store, out),
+        Some(command) => run_command(alloc, command, store, out),
     }
 }
 
@@ -137,16 +145,27 @@ pub fn basic_words<S: Store, I: Source, O: Sink, E: Sink>(
 
     // Where the store tells its files, no count of faults rose and there was memory: the status,
     // the output and the report are those of the answer to the words.
-    ensures exact { IfSome (S.files store.old) (λ files. ¬ Rose (S.faults store.old) (S.faults store.new) → ¬ Rose (O.faults out.old) (O.faults out.new) → ¬ Rose (E.faults report.old) (E.faults report.new) → result ≢ Status.Memory → IsAnswered (answer_of (map string_bytes words.now) files) (O.taken out.old) (O.taken out.new) (E.taken report.old) (E.taken report.new) result) }
+    ensures exact { IfSome (S.files store.old) (λ files.
+        ¬ Rose (S.faults store.old) (S.faults store.new) →
+        ¬ Rose (O.faults out.old) (O.faults out.new) →
+        ¬ Rose (E.faults report.old) (E.faults report.new) →
+        result ≢ Status.Memory →
+        IsAnswered (answer_of (map string_bytes words.now) files)
+        (O.taken out.old) (O.taken out.new) (E.taken report.old) (E.taken report.new) result) }
 
     // Whatever failed: that answer, or a failure with the front of its output.
-    ensures answered { IfSome (S.files store.old) (λ files. AnswersOrGivesUp (answer_of (map string_bytes words.now) files) (O.taken out.old) (O.taken out.new) (E.taken report.old) (E.taken report.new) result) }
-    ensures built { IsTrue (can_be result) }
+    ensures answered { IfSome (S.files store.old) (λ files.
+        AnswersOrGivesUp (answer_of (map string_bytes words.now) files)
+        (O.taken out.old) (O.taken out.new) (E.taken report.old) (E.taken report.new) result) }
+    ensures built_statuses { IsTrue (can_be result) }
 
     // Words that are no command: Usage with its line, and nothing else is done, over any store.
     ensures usage { result ≡ Status.Usage → command_of (map string_bytes words.now) ≡ None }
-    ensures no_command { command_of (map string_bytes words.now) ≡ None → IsTold Ending.Usage (E.taken report.old) (E.taken report.new) result }
-    ensures idle { command_of (map string_bytes words.now) ≡ None → IsIdle (O.taken out.old) (O.taken out.new) (O.faults out.old) (O.faults out.new) (S.faults store.old) (S.faults store.new) }
+    ensures no_command { command_of (map string_bytes words.now) ≡ None →
+        IsTold Ending.Usage (E.taken report.old) (E.taken report.new) result }
+    ensures idle { command_of (map string_bytes words.now) ≡ None →
+        IsIdle (O.taken out.old) (O.taken out.new) (O.faults out.old) (O.faults out.new)
+        (S.faults store.old) (S.faults store.new) }
 
     // A fault is answered only where that object's count rose in this call.
     ensures store_fault { result ≡ Status.StoreFault → Rose (S.faults store.old) (S.faults store.new) }
@@ -154,22 +173,29 @@ pub fn basic_words<S: Store, I: Source, O: Sink, E: Sink>(
     ensures report_fault { result ≡ Status.ReportFault → Rose (E.faults report.old) (E.faults report.new) }
 
     // Where a count rose, the answer is the fault of that object, of the report, or want of memory.
-    ensures store_rose { S.faults store.old < S.faults store.new → IsTrue (tells_fault Status.StoreFault result) }
-    ensures output_rose { O.faults out.old < O.faults out.new → IsTrue (tells_fault Status.OutputFault result) }
-    ensures report_rose { E.faults report.old < E.faults report.new → IsTrue (tells_fault Status.ReportFault result) }
+    ensures store_rose { S.faults store.old < S.faults store.new →
+        IsTrue (tells_fault Status.StoreFault result) }
+    ensures output_rose { O.faults out.old < O.faults out.new →
+        IsTrue (tells_fault Status.OutputFault result) }
+    ensures report_rose { E.faults report.old < E.faults report.new →
+        IsTrue (tells_fault Status.ReportFault result) }
 
     // What the report took of a failure.
-    ensures store_fault_told { result ≡ Status.StoreFault → TookAll (E.taken report.old) (E.taken report.new) (report_of Ending.StoreFault) }
-    ensures output_fault_told { result ≡ Status.OutputFault → TookAll (E.taken report.old) (E.taken report.new) (report_of Ending.OutputFault) }
-    ensures cut_short { TookReportPrefix (map string_bytes words.now) (E.taken report.old) (E.taken report.new) }
-    ensures line_of_answer { IfSome (S.files store.old) (λ files. TookLineOf (answer_of (map string_bytes words.now) files) (E.taken report.old) (E.taken report.new)) }
+    ensures store_fault_told { result ≡ Status.StoreFault →
+        TookAll (E.taken report.old) (E.taken report.new) (report_of Ending.StoreFault) }
+    ensures output_fault_told { result ≡ Status.OutputFault →
+        TookAll (E.taken report.old) (E.taken report.new) (report_of Ending.OutputFault) }
+    ensures one_report_line { TookReportPrefix (map string_bytes words.now) (E.taken report.old) (E.taken report.new) }
+    ensures line_of_answer { IfSome (S.files store.old) (λ files.
+        TookLineOf (answer_of (map string_bytes words.now) files)
+        (E.taken report.old) (E.taken report.new)) }
 
     // What no command changes.
     ensures files_stay { S.files store.new ≡ S.files store.old }
     ensures input_stays { I.left input.new ≡ I.left input.old }
-    ensures input_sound { I.faults input.new ≡ I.faults input.old }
+    ensures input_count_stays { I.faults input.new ≡ I.faults input.old }
 {
     let _ = input;
     let ending = perform(alloc, words, store, out);
-    tell(alloc, ending, report)
+    write_report(alloc, ending, report)
 }

@@ -12,14 +12,14 @@ pub enum Command {
 }
 
 /// The most bytes of a file name on the command line.
-const NAME_BYTES: usize = 64;
+pub const WORD_NAME_BYTES: usize = 64;
 
 // The name of a source file, or `None` where the text is none.
 fn source_name(text: &[u8]) -> Option<FileName>
     ensures value { result ≡ (if is_source_name text.now then Some text.now else None) }
-    ensures short { IfSome result (λ name. length name ≤ 64) }
+    ensures short { IfSome result (λ name. length name ≤ WORD_NAME_BYTES) }
 {
-    if text.len() <= NAME_BYTES && text.ends_with(b".bas") {
+    if text.len() <= WORD_NAME_BYTES && text.ends_with(b".bas") {
         FileName::of(text).ok()
     } else {
         None
@@ -29,7 +29,7 @@ fn source_name(text: &[u8]) -> Option<FileName>
 /// The command that the words are, or `None` where they are none.
 pub fn command_of(words: &[String]) -> Option<Command>
     ensures value { result ≡ command_of (map string_bytes words.now) }
-    ensures short { IfSome result (λ command. length (name_of command) ≤ 64) }
+    ensures short { IfSome result (λ command. length (name_of command) ≤ WORD_NAME_BYTES) }
 {
     if words.len() != 2 || words[0].as_str() != "go" {
         return None;

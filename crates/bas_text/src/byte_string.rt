@@ -1,6 +1,6 @@
 //! The strings of BASIC.
 
-ghost use Rattle.std.specs.Prelude.{◌≡◌, ◌<◌, ◌≤◌, ◌↔◌, length, IfOk, IsErrOf};
+ghost use Rattle.std.specs.Prelude.{◌≡◌, ◌<◌, ◌≤◌, ◌↔◌, length, IfOk, IsErrOf, MatchOption};
 
 use std::alloc::{AllocError, Global};
 use std::marker::Model;
@@ -57,6 +57,17 @@ impl StrVal {
         Ok(StrVal {
             stored: Vec::from_slice(alloc, bytes)?,
         })
+    }
+
+    /// The string of these bytes, where they are not too many.
+    pub(crate) fn from_vec(bytes: Vec<u8>) -> Option<StrVal>
+        ensures { MatchOption result (MAX_STRING_LEN < length bytes.items) (λ string. (string ≡ bytes.items) × (length bytes.items ≤ MAX_STRING_LEN)) }
+    {
+        if bytes.len() > MAX_STRING_LEN {
+            None
+        } else {
+            Some(StrVal { stored: bytes })
+        }
     }
 
     /// The bytes of the string, at most 65,535.

@@ -5,7 +5,7 @@ use super::operand::{line_number_of, variable_of};
 use super::sum::sum_of;
 use super::text::{begins_with_space, digit_len, has_equals, split_at_byte, trimmed, word_len};
 use super::words::spells;
-use crate::program::{Item, NumItem};
+use crate::program::{Item, NumberedItem};
 use std::alloc::{AllocError, Global};
 
 fn assignment_of(alloc: Global, text: &[u8]) -> Result<Option<Item>, AllocError>
@@ -51,7 +51,7 @@ fn item_of(alloc: Global, text: &[u8]) -> Result<Option<Item>, AllocError>
 }
 
 /// The line that the text is, with its number.
-pub fn line_of(alloc: Global, text: &[u8]) -> Result<Option<NumItem>, AllocError>
+pub fn line_of(alloc: Global, text: &[u8]) -> Result<Option<NumberedItem>, AllocError>
     ensures { IfOk result (λ line. line ≡ line_of text.now) }
 {
     let (digits, rest) = text.split_at(digit_len(text));
@@ -64,5 +64,5 @@ pub fn line_of(alloc: Global, text: &[u8]) -> Result<Option<NumItem>, AllocError
     let Some(item) = item_of(alloc, trimmed(rest))? else {
         return Ok(None);
     };
-    Ok(Some(NumItem { line, item }))
+    Ok(Some(NumberedItem { line, item }))
 }

@@ -4,12 +4,12 @@ ghost use Rattle.bas_drive.specs.Form.{all_lines, is_end, is_program_after};
 
 use super::line::line_of;
 use super::text::split_at_byte;
-use crate::program::{Item, NumItem};
+use crate::program::{Item, NumberedItem};
 use bas_base::Seq;
 use std::alloc::{AllocError, Global};
 
 /// The lines of a file, where each of its lines is one.
-pub fn all_lines(alloc: Global, bytes: &[u8]) -> Result<Option<Seq<NumItem>>, AllocError>
+pub fn all_lines(alloc: Global, bytes: &[u8]) -> Result<Option<Seq<NumberedItem>>, AllocError>
     ensures { IfOk result (λ lines. lines ≡ all_lines (lines_of bytes.now)) }
 {
     let mut lines = Vec::new(alloc);
@@ -35,7 +35,7 @@ fn is_end(item: &Item) -> bool
 }
 
 /// The numbers rise, and END is the last line and no other.
-pub fn is_program(lines: &[NumItem]) -> bool
+pub fn is_program(lines: &[NumberedItem]) -> bool
     ensures { result ≡ is_program_after 0 lines.now }
 {
     let mut number = 0;

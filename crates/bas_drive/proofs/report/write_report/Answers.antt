@@ -4,7 +4,7 @@ use Rattle.bas_drive.specs.Report.{report_of}
 use Rattle.bas_drive.specs.Headline.{IsTold}
 use Rattle.bas_drive.specs.Headline.IsTold.{Whole, CutByFault, CutByMemory}
 use Rattle.bas_drive.proofs.Taking.{TookPrefix-none}
-use Rattle.bas_drive.proofs.report.tell.Goals as goal
+use Rattle.bas_drive.proofs.report.write_report.Goals as goal
 
 pub returns-in-Err-clause-told : goal.returns-in-Err-clause-told
 returns-in-Err-clause-told g c = CutByMemory (TookPrefix-none _ (report_of c.args.ending))

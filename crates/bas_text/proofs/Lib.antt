@@ -1,0 +1,5 @@
+pub mod DataLaws
+pub mod TrimLaws
+pub mod PieceLaws
+pub mod ItemLaws
+pub mod ListLaws

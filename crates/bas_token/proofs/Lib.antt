@@ -1,0 +1,5 @@
+pub mod ShapeLaws
+pub mod RemarkLaws
+pub mod EndsOfShapes
+pub mod TokenLaws
+pub mod CutLaws

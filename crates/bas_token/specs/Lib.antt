@@ -1,0 +1,4 @@
+pub mod Lexical
+pub mod Tokens
+pub mod Readers
+pub mod Reading
