@@ -1,0 +1,12 @@
+pub mod ActualLaws
+pub mod MarkLaws
+pub mod SeparatedLaws
+pub mod BracketLaws
+pub mod PrimaryLaws
+pub mod ExpressionLaws
+pub mod LoopLaws
+pub mod NextLaws
+pub mod QuoteLaws
+pub mod ConditionLaws
+pub mod CondLoops
+pub mod TokenLaws

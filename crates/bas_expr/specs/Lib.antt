@@ -1,0 +1,9 @@
+pub mod Lexemes
+pub mod Marks
+pub mod Words
+pub mod Separated
+pub mod Grammar
+pub mod Conditions
+pub mod Reading
+pub mod Testing
+pub mod Source
