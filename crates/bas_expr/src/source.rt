@@ -8,7 +8,9 @@ ghost use Rattle.bas_expr.specs.Words as words;
 ghost use Rattle.bas_expr.specs.Source.{LiesIn};
 
 use crate::mark::{Mark, mark_of_text};
-use crate::word::{Connective, connective_of_text, name_of_text, numeral_of_text, text_in_quotes};
+use crate::word::{
+    Connective, connective_of_text, is_supplied, name_of_text, numeral_of_text, text_in_quotes,
+};
 use bas_ast::{FactorSign, Numeral, Rel, Sign, TermSign};
 use bas_base::Name;
 use bas_text::StrVal;
@@ -54,7 +56,8 @@ impl<'a> Source<'a> {
         self.tokens.len()
     }
 
-    fn lexeme(&self, at: usize) -> Option<(TokenKind, &'a [u8])>
+    /// The kind and the text of the token at a place.
+    pub fn lexeme(&self, at: usize) -> Option<(TokenKind, &'a [u8])>
         ensures value { option_map (λ l. (l.0, l.1.now)) result ≡ slice_get self.now at }
         ensures within { IfSome result (λ _. at < 4096) }
         ensures short { IfSome result (λ l. length l.1.now ≤ 4096) }
@@ -167,6 +170,19 @@ impl<'a> Source<'a> {
         match self.lexeme(at) {
             Some((TokenKind::Word, text)) => name_of_text(text),
             _ => None,
+        }
+    }
+
+    /// The name at a place, where it names no supplied function.
+    pub fn own_name(&self, at: usize) -> Option<Name>
+        ensures value { result ≡ words.own_name self.now at }
+        ensures within { IfSome result (λ _. at < 4096) }
+    {
+        let name = self.name(at)?;
+        if is_supplied(name.bytes()) {
+            None
+        } else {
+            Some(name)
         }
     }
 

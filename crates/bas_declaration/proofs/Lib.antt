@@ -1,0 +1,4 @@
+pub mod DigitLaws
+pub mod WordLaws
+pub mod PartLaws
+pub mod DeclLaws
