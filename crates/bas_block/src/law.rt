@@ -1,0 +1,15 @@
+//! What follows from the reading of files.
+
+ghost use Rattle.bas_block.specs.Files.{AllFilesAreRead, FilesAreRead, OneList};
+
+/// What is answered for a file is what the relation gives it, both ways.
+#[tactic(auto, using(crate::proofs::FileLaws::files_are_read))]
+pub fn file_law()
+    ensures sound { FilesAreRead }
+    ensures whole { AllFilesAreRead }
+{}
+
+/// A file has one list of units at most.
+pub fn one_file_law()
+    ensures { OneList }
+{}

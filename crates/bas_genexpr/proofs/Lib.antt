@@ -1,0 +1,10 @@
+pub mod CountLemmas
+pub mod ExpressionCodes
+pub mod Jumping
+pub mod Listings
+pub mod NumberLemmas
+pub mod Pieces
+pub mod Readings
+pub mod SlotLemmas
+pub mod TextVariables
+pub mod Turns

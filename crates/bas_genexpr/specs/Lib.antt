@@ -1,0 +1,5 @@
+pub mod Counts
+pub mod Jumps
+pub mod Numbering
+pub mod Refusals
+pub mod Sizes

@@ -1,0 +1,4 @@
+pub mod FrontLaws
+pub mod EndLaws
+pub mod ListLaws
+pub mod PrintLaws

@@ -1,0 +1,20 @@
+use Rattle.std.proofs.Common.{◌≡◌, Some, None, sym, ◌∙◌}
+use Rattle.bas_expr.proofs.LoopLaws.{fewer, listed_on, listed_end}
+use Rattle.bas_list.specs.Reading.{next_value}
+use Rattle.bas_list.proofs.ListLaws.{next_value_longest, two}
+use Rattle.bas_list.proofs.value.more_values.Goals as goal
+
+pub more-smaller : goal.more-smaller
+more-smaller c =
+    let e : next_value c.args.line.now c.args.depth c.more.at ≡ Some (c.in-Some.next, c.in-Some.after) = sym c.in_ok-next.ensures ∙ c.in-Some.is in
+    fewer (next_value_longest c.args.line.now c.args.depth) two c.more.at _ _ e
+
+pub more-preserved : goal.more-preserved
+more-preserved c =
+    let e : next_value c.args.line.now c.args.depth c.more.at ≡ Some (c.in-Some.next, c.in-Some.after) = sym c.in_ok-next.ensures ∙ c.in-Some.is in
+    rw c.in_ok-push-2.ensures.items (listed_on (next_value_longest c.args.line.now c.args.depth) two c.args.first c.args.at c.more.at c.more.all.items _ _ c.more.invariant e)
+
+pub returns : goal.returns
+returns c =
+    let e : next_value c.args.line.now c.args.depth c.more.at ≡ None = sym c.in_ok-next.ensures ∙ c.in_default.is in
+    listed_end (next_value_longest c.args.line.now c.args.depth) two c.args.first c.args.at c.more.at c.more.all.items c.more.invariant e

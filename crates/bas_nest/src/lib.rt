@@ -1,0 +1,23 @@
+//! The nesting of numbered lines: which lines are which units.
+//!
+//! Which lines are which trees stands in `specs/Units.antt`, over the roles of lines in
+//! `specs/Constructs.antt`. `line_read` reads one line after the other in constant time, and `None` is its
+//! answer at the first line that no nesting takes; the laws of `src/law.rt` join it to the relation.
+#![tactic(auto)]
+
+mod body;
+mod construct;
+mod ending;
+mod law;
+mod reader;
+mod stack;
+mod state;
+#[cfg(test)]
+mod tests;
+
+pub use law::{nest_law, one_reading_law, refusal_law, unclosed_law};
+pub use reader::{line_read, nothing_read, unclosed};
+pub use state::{Open, Reading};
+
+/// The most blocks that are open at a place.
+pub const OPEN_BLOCKS: usize = 64;

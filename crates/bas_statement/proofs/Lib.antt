@@ -1,0 +1,3 @@
+pub mod GoesLaws
+pub mod InputLaws
+pub mod StatementLaws

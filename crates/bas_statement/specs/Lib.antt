@@ -1,0 +1,3 @@
+pub mod Verbs
+pub mod Statements
+pub mod Reading
