@@ -1,0 +1,9 @@
+pub mod Addressing
+pub mod Laying
+pub mod LayingLines
+pub mod MadeBodies
+pub mod Making
+pub mod MakingLines
+pub mod MakingPrograms
+pub mod MakingSections
+pub mod TextNames

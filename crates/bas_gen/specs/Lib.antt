@@ -1,0 +1,5 @@
+pub mod Addresses
+pub mod Emitting
+pub mod Generated
+pub mod Kinds
+pub mod Layouts

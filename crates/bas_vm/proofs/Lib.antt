@@ -1,0 +1,12 @@
+pub mod Arithmetic
+pub mod Bodies
+pub mod Grows
+pub mod Images
+pub mod Measure
+pub mod Performing
+pub mod Printing
+pub mod Slots
+pub mod Stacks
+pub mod Storing
+pub mod Tables
+pub mod Taking

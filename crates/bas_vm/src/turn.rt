@@ -1,0 +1,31 @@
+use bas_base::ExAt;
+
+/// How a run for a number of lines comes to its end.
+#[derive(Clone, Copy, Debug)]
+pub enum Turn {
+    /// The program ended.
+    Ended,
+    /// An exception that nobody caught ended the program.
+    Stopped(ExAt),
+    /// A line was reached when no line was left.
+    LinesSpent,
+    /// An instruction did not find what it takes, or there was none.
+    Lost,
+    /// The body of the program has a `WHEN` block, or a jump that goes back to no mark.
+    Refused,
+    /// The output failed.
+    OutputFault,
+    /// There was no memory.
+    Memory,
+}
+
+/// What one instruction leads to.
+#[derive(Clone, Copy, Debug)]
+pub enum Step {
+    /// The next instruction is executed.
+    Onward,
+    /// The instruction at the address is executed.
+    Goes(u16),
+    /// The run is over.
+    Ends(Turn),
+}
