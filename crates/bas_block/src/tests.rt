@@ -86,7 +86,7 @@ const FILES: [(&str, &str, u32); 32] = [
 
 fn outcome(alloc: Global, file: &[u8]) -> Result<(&'static str, u32), AllocError> {
     let told = match units_of(alloc, file) {
-        Ok(units) => ("units", units.len() as u32),
+        Ok(units) => ("units", u32::try_from(units.len()).unwrap_or(u32::MAX)),
         Err(SourceFault::TooLong(count)) => ("TooLong", count),
         Err(SourceFault::Unnumbered(count)) => ("Unnumbered", count),
         Err(SourceFault::OutOfOrder(line)) => ("OutOfOrder", line.number()),
@@ -110,13 +110,13 @@ fn with_line_of(alloc: Global, bytes: usize) -> Result<Vec<u8>, AllocError> {
 }
 
 // So many blocks, one in the other, in lines 1, 2, ..
-fn with_blocks(alloc: Global, blocks: u32) -> Result<Vec<u8>, AllocError> {
+fn with_blocks(alloc: Global, blocks: u8) -> Result<Vec<u8>, AllocError> {
     let mut file = Vec::new(alloc);
-    for number in 100..100 + blocks {
+    for number in 100..100 + u32::from(blocks) {
         let line = format!(in alloc; "{number} DO\n")?;
         file.extend_from_slice(line.as_bytes())?;
     }
-    for number in 300..300 + blocks {
+    for number in 300..300 + u32::from(blocks) {
         let line = format!(in alloc; "{number} LOOP\n")?;
         file.extend_from_slice(line.as_bytes())?;
     }

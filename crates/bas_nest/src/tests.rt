@@ -72,9 +72,9 @@ fn line_of(alloc: Global, line: Line, kind: Kind, name: Name) -> Result<NumLine,
 // What was read, and the line that was refused or is open.
 fn read(alloc: Global, kinds: &[Kind], name: Name) -> Result<(usize, u32), Fail> {
     let mut reading = nothing_read(alloc);
-    let mut number = 0;
+    let mut number: u32 = 0;
     for kind in kinds {
-        number += 1;
+        number = number.saturating_add(1);
         let line = Line::of(number).ok_or("no number")?;
         let units = reading.units.items().len();
         match line_read(alloc, reading, line_of(alloc, line, *kind, name)?)? {
