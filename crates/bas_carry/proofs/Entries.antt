@@ -2,7 +2,7 @@
 use Rattle.std.proofs.Common.{◌≡◌, ℕ, suc, ◌+◌, ◌<◌, ◌≤◌, Bool, true, false, List, [], ◌∷◌, ◌++◌, Some, refl, ap, ◌∙◌, arith}
 use Rattle.std.specs.Prelude.{◌&&◌, nat_le, nat_lt, if◌then◌else◌}
 use Rattle.std.proofs.lemmas.Bool.{le-leb, lt-ltb, ltb-true}
-use Rattle.bas_ast.specs.Tree.{Alone, IfThen, OnGoto, OnGosub, If, Elseif, Else, Do, Loop, End, LineItem, OfSimple, OfPart, NumLine, Stmt, Single, Nest, Sections, NoSections, MoreSections, Block, NoStmts, MoreStmts}
+use Rattle.bas_ast.specs.Tree.{Alone, IfThen, OnGoto, OnGosub, If, Elseif, Else, Do, Loop, End, LineItem, Nothing, Rem, OfSimple, OfPart, NumLine, Stmt, Single, Nest, Sections, NoSections, MoreSections, Block, NoStmts, MoreStmts}
 use Rattle.bas_code.specs.declared.body.LineEntry.{LineEntry}
 use Rattle.bas_code.specs.Guards.{entry_at}
 use Rattle.bas_carry.specs.Constructs.{is_last}
@@ -63,6 +63,8 @@ finds_own [] a b w = tt
 finds_own (e ∷ es) a b w = (finds_first e es, behind e es es e.end b (omega arith) w.2 (finds_own es e.end b w.2))
 
 single_within : (l : ℕ) (item : LineItem) (from : ℕ) → Within from (from + single_size item) (single_rows l item from)
+single_within l Nothing from = (omega arith, omega arith, omega arith)
+single_within l (Rem bytes) from = (omega arith, omega arith, omega arith)
 single_within l (OfSimple (Alone plain)) from = (omega arith, omega arith, omega arith)
 single_within l (OfSimple (IfThen c a b)) from = omega arith
 single_within l (OfSimple (OnGoto x ls e)) from = omega arith

@@ -1,6 +1,6 @@
 -- The codes that the functions make have the sizes that the functions say.
 use Rattle.std.proofs.Common.{◌≡◌, ℕ, suc, ◌+◌, Bool, true, false, List, [], ◌∷◌, ◌++◌, length, Option, Some, None, refl, ap, ◌∙◌, arith}
-use Rattle.bas_ast.specs.Tree.{Sign, Plus, Minus, TermSign, Add, Subtract, Join, FactorSign, Multiply, Divide, Rel, Expr, Sum, Terms, NoTerms, MoreTerms, Term, Product, Factors, NoFactors, MoreFactors, Factor, Power, Primaries, NoPrimaries, MorePrimaries, Primary, Numeric, Group, Named, Cond, AnyOf, Conjs, NoConjs, MoreConjs, Conj, AllOf, Tests, NoTests, MoreTests, Test, Not, CondGroup, Compare, Variable, Pitem, Printed, Plain, Let, Print, Goto, ExitDo, Simple, Alone, Loopc, While, Until, Part, If, Elseif, Else, Do, Loop, End, LineItem, OfSimple, OfPart, NumLine, Stmt, Single, Nest, Sections, NoSections, MoreSections, Block, NoStmts, MoreStmts, Program}
+use Rattle.bas_ast.specs.Tree.{Sign, Plus, Minus, TermSign, Add, Subtract, Join, FactorSign, Multiply, Divide, Rel, Expr, Sum, Terms, NoTerms, MoreTerms, Term, Product, Factors, NoFactors, MoreFactors, Factor, Power, Primaries, NoPrimaries, MorePrimaries, Primary, Numeric, Group, Named, Cond, AnyOf, Conjs, NoConjs, MoreConjs, Conj, AllOf, Tests, NoTests, MoreTests, Test, Not, CondGroup, Compare, Variable, Pitem, Printed, Plain, Let, Print, Goto, ExitDo, Simple, Alone, Loopc, While, Until, Part, If, Elseif, Else, Do, Loop, End, LineItem, Nothing, Rem, OfSimple, OfPart, NumLine, Stmt, Single, Nest, Sections, NoSections, MoreSections, Block, NoStmts, MoreStmts, Program}
 use Rattle.bas_ast.specs.Tree as tree
 use Rattle.bas_mean.specs.World as world
 use Rattle.bas_mean.specs.Outcome.{Target, EndOf}
@@ -138,6 +138,8 @@ module _ (order : List world.Variable) where
     plain_length around _ = refl
 
     single_length : (around : Around) (l : ℕ) (item : LineItem) → length (single_code order addr around l item) ≡ single_size item
+    single_length around l Nothing = refl
+    single_length around l (Rem bytes) = refl
     single_length around l (OfSimple (Alone plain)) = let q = plain_length around plain in omega (arith, q)
     single_length around l _ = refl
 

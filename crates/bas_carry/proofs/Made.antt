@@ -2,7 +2,7 @@
 use Rattle.std.proofs.Common.{◌≡◌, ℕ, suc, ◌+◌, Bool, true, false, List, [], ◌∷◌, ◌++◌, length, Option, Some, None, refl, sym, ap, ◌∙◌, subst, arith, is_some, ⊎_elim}
 use Rattle.std.specs.Prelude.{◌&&◌, ◌||◌, slice_get}
 use Rattle.std.proofs.lemmas.Bool.{eq-eqb}
-use Rattle.bas_ast.specs.Tree.{Cond, Loopc, Alone, IfThen, OnGoto, OnGosub, If, Elseif, Else, Do, Loop, End, LineItem, OfSimple, OfPart, NumLine, Stmt, Single, Nest, Sections, NoSections, MoreSections, Block, NoStmts, MoreStmts, Program}
+use Rattle.bas_ast.specs.Tree.{Cond, Loopc, Alone, IfThen, OnGoto, OnGosub, If, Elseif, Else, Do, Loop, End, LineItem, Nothing, Rem, OfSimple, OfPart, NumLine, Stmt, Single, Nest, Sections, NoSections, MoreSections, Block, NoStmts, MoreStmts, Program}
 use Rattle.bas_mean.specs.World as world
 use Rattle.bas_mean.specs.Outcome.{Target, EndOf, TurnOf}
 use Rattle.bas_mean.specs.Place.{Around, Closing, Bare, ClosedBy, Region}
@@ -17,7 +17,7 @@ use Rattle.bas_code.specs.declared.instr.Instr.TheVariants as instr
 use Rattle.bas_code.specs.declared.instr.JumpInstr.TheVariants as jump
 use Rattle.bas_code.specs.declared.body.LineEntry.{LineEntry}
 use Rattle.bas_code.specs.declared.body.Proc.{Proc}
-use Rattle.bas_carry.specs.Text.{Text, Static, near_if, near_hit, inside, looped, RowAt}
+use Rattle.bas_carry.specs.Text.{Text, Static, near_if, near_hit, inside, looped, At, NoneAt, RowAt, LineAt}
 use Rattle.bas_carry.specs.Constructs.{is_last, PartEndAt, IfSectionAt, DoSectionAt, ClosingAt, SingleAt}
 use Rattle.bas_carry.specs.Carries.{StmtAt, SectionsAt, LinesAt, top_static, ProgramAt}
 use Rattle.bas_carry.specs.Slots.{in_cond, in_loopc, in_line, in_stmt, in_sections, in_block, index_of, slots_of}
@@ -52,8 +52,18 @@ module _ (text : Text) (order : List world.Variable) (places : (x : world.Variab
       by Round q = refl
       by Elsewhere q = g t q
 
+  -- a remark or an empty line
+  remark_stands : (st : Static) (l from to : ℕ) → to ≡ from + 1 → At text from (instr.Mark l) → Finds text.proc.lines (entry l from (suc from) (suc from)) → LineAt text l to (NoneAt text) from to
+  remark_stands st l from to e mark row = record {
+    mark = mark;
+    row = row_moved l from (suc from) to (suc from) to (omega (arith, e)) (omega (arith, e)) row;
+    code = record { none = omega (arith, e) };
+  }
+
   -- a line alone
   single_stands : (st : Static) (near : Target → Bool) (l : ℕ) (item : LineItem) (from to : ℕ) → AgreesOn text order places st near → is_built_single item ≡ true → Covered order (in_line item) → jumps_in_item st.around near item ≡ true → to ≡ from + single_size item → StandsAt text from (single_code order text.addr st.around l item) → RowsStand (single_rows l item from) → SingleAt text st (record { line = l; item = item }) from to
+  single_stands st near l Nothing from to g b v j e c f = remark_stands st l from to e c.0 f.0
+  single_stands st near l (Rem bytes) from to g b v j e c f = remark_stands st l from to e c.0 f.0
   single_stands st near l (OfSimple (Alone plain)) from to g b v j e c f = record {
     mark = c.0;
     row = row_moved l from (from + single_size (OfSimple (Alone plain))) to (from + single_size (OfSimple (Alone plain))) to (sym e) (sym e) f.0;

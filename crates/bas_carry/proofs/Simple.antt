@@ -2,14 +2,14 @@
 use Rattle.std.proofs.Common.{ℕ, suc, ◌<◌, ◌≤◌, List, [], ◌∷◌, Option, Some, None, sym, ap, ◌∙◌, arith, inl}
 use Rattle.bas_dec.specs.Number.{Number}
 use Rattle.bas_dec.specs.Text.{text_of}
-use Rattle.bas_ast.specs.Tree.{Expr, Target, Variable, NoExprs, MoreExprs, Sep, Pitem, Printed, Tab, Plain, Let, Print, Goto, ExitDo, Simple, Alone, LineItem, OfSimple, Stmt}
+use Rattle.bas_ast.specs.Tree.{Expr, Target, Variable, NoExprs, MoreExprs, Sep, Pitem, Printed, Tab, Plain, Let, Print, Goto, ExitDo, Simple, Alone, LineItem, Nothing, Rem, OfSimple, Stmt}
 use Rattle.bas_mean.specs.World.{OfName, Ref, World, with_cells, seen}
 use Rattle.bas_mean.specs.Printing.{with_item, with_line_ended}
 use Rattle.bas_mean.specs.Outcome.{Gives, then_with, Next, Onward, Jump, Back, Finish, Halt, Retry, Continue, PassOn, Normal, follow, Ended}
 use Rattle.bas_mean.specs.Place.{Here, here_at, Lower}
 use Rattle.bas_mean.specs.Expression.{stored, number}
 use Rattle.bas_mean.specs.Simple.{store, target_ref, let_words, print_words, exit_words, plain_words, simple_words}
-use Rattle.bas_mean.specs.Construct.{single}
+use Rattle.bas_mean.specs.Construct.{remark_line, single}
 use Rattle.bas_code.specs.declared.instr.Instr.TheVariants as instr
 use Rattle.bas_code.specs.declared.instr.PushInstr.TheVariants as push
 use Rattle.bas_code.specs.declared.instr.StoreInstr.TheVariants as stores
@@ -18,7 +18,7 @@ use Rattle.bas_code.specs.declared.instr.TheConstants.{TERMINAL}
 use Rattle.bas_code.specs.declared.body.Image.{Image}
 use Rattle.bas_code.specs.State.{Spot, MachineWorld, Operand, ANumber, ASpot, State, Run, Over}
 use Rattle.bas_code.specs.Machine.{with_some, with_number_at}
-use Rattle.bas_carry.specs.Text.{Text, Static, OneAt}
+use Rattle.bas_carry.specs.Text.{Text, Static, NoneAt, OneAt, LineAt}
 use Rattle.bas_carry.specs.Shown.{shown, Lives}
 use Rattle.bas_carry.specs.Simples.{TargetAt, LetAt, PrintAt, ExitAt, PlainAt, SimpleAt}
 use Rattle.bas_carry.specs.Constructs.{SingleAt}
@@ -154,8 +154,18 @@ module _ (image : Image) (text : Text) (n : ℕ) (x : Stand) (good : Good image 
     simple_law (Alone plain) from to w at rows h = plain_law plain from to w at rows h
     simple_law _ from to w at rows h = absurd at
 
+  -- a remark or an empty line
+  remark_law : (low : Lower) (l : ℕ) (whole : Stmt) (from to : ℕ) (w : World) → LineAt text l to (NoneAt text) from to → w.left < suc n → Reaches image text n x st.drops to (run_at text from x w) (remark_line low (place_of text x) st.around l whole w)
+  remark_law low l whole from to w at h =
+      line_law image text n low x good st.drops l from to (low.stmt (place_of text x) st.around whole) Normal (λ w1 v w2. Follows to (run_at text (suc from) x w1) v w2) (Gives Onward) follow at.mark
+      (λ w1 h1. (h1, goes_to image _ _ _ (ap (λ t. run_at text t x w1) at.code.none) (stays image (run_at text (suc from) x w1))))
+      (λ w1 v w2 h2 f. follow_law to (run_at text (suc from) x w1) v w2 h2 f)
+      w h
+
   -- a line alone
   pub single_law : (low : Lower) (l : ℕ) (item : LineItem) (whole : Stmt) (from to : ℕ) (w : World) → SingleAt text st (record { line = l; item = item }) from to → w.left < suc n → Reaches image text n x st.drops to (run_at text from x w) (single low (place_of text x) st.around (record { line = l; item = item }) whole w)
+  single_law low l Nothing whole from to w at h = remark_law low l whole from to w at h
+  single_law low l (Rem bytes) whole from to w at h = remark_law low l whole from to w at h
   single_law low l (OfSimple s) whole from to w at h =
       line_law image text n low x good st.drops l from to (low.stmt (place_of text x) st.around whole) Normal (λ w1 v w2. Follows to (run_at text (suc from) x w1) v w2) (simple_words (here_at (place_of text x) st.around l) s) follow at.mark
       (λ w1 h1. simple_law l from to to s (suc from) to w1 at.code (λ pc a b. at.row pc (omega arith) b) h1)

@@ -1,7 +1,7 @@
 -- The code of a program as a function: of the list of its variables, whose indexes are the slots,
 -- and of the address of each target. Sizes depend on neither.
 use Rattle.std.specs.Prelude.{ℕ, suc, ◌+◌, Bool, true, false, List, [], ◌∷◌, ◌++◌, Option, Some, None}
-use Rattle.bas_ast.specs.Tree.{Sign, Plus, Minus, TermSign, Add, Subtract, Join, FactorSign, Multiply, Divide, Rel, Expr, Sum, Terms, NoTerms, MoreTerms, Term, Product, Factors, NoFactors, MoreFactors, Factor, Power, Primaries, NoPrimaries, MorePrimaries, Primary, Numeric, Group, Named, Cond, AnyOf, Conjs, NoConjs, MoreConjs, Conj, AllOf, Tests, NoTests, MoreTests, Test, Not, CondGroup, Compare, Variable, Pitem, Printed, Plain, Let, Print, Goto, ExitDo, Simple, Alone, Loopc, While, Until, Part, If, Elseif, Else, Do, Loop, End, LineItem, OfSimple, OfPart, NumLine, Stmt, Single, Nest, Sections, NoSections, MoreSections, Block, NoStmts, MoreStmts, Program}
+use Rattle.bas_ast.specs.Tree.{Sign, Plus, Minus, TermSign, Add, Subtract, Join, FactorSign, Multiply, Divide, Rel, Expr, Sum, Terms, NoTerms, MoreTerms, Term, Product, Factors, NoFactors, MoreFactors, Factor, Power, Primaries, NoPrimaries, MorePrimaries, Primary, Numeric, Group, Named, Cond, AnyOf, Conjs, NoConjs, MoreConjs, Conj, AllOf, Tests, NoTests, MoreTests, Test, Not, CondGroup, Compare, Variable, Pitem, Printed, Plain, Let, Print, Goto, ExitDo, Simple, Alone, Loopc, While, Until, Part, If, Elseif, Else, Do, Loop, End, LineItem, Nothing, Rem, OfSimple, OfPart, NumLine, Stmt, Single, Nest, Sections, NoSections, MoreSections, Block, NoStmts, MoreStmts, Program}
 use Rattle.bas_ast.specs.Tree as tree
 use Rattle.bas_mean.specs.World.{OfName}
 use Rattle.bas_mean.specs.World as world
@@ -126,6 +126,8 @@ plain_size _ = 0
 
 -- a line alone, with its mark
 abbrev pub single_size : LineItem → ℕ
+single_size Nothing = 1
+single_size (Rem bytes) = 1
 single_size (OfSimple (Alone plain)) = 1 + plain_size plain
 single_size _ = 0
 
@@ -316,6 +318,8 @@ module _ (order : List world.Variable) where
 
     -- a line alone
     abbrev pub single_code : Around → (l : ℕ) → LineItem → List Instr
+    single_code around l Nothing = instr.Mark l ∷ []
+    single_code around l (Rem bytes) = instr.Mark l ∷ []
     single_code around l (OfSimple (Alone plain)) = instr.Mark l ∷ plain_code around plain
     single_code around l _ = []
 

@@ -1,13 +1,13 @@
 -- The code of the constructs: of a section, and of a line that closes a block.
 use Rattle.std.specs.Prelude.{◌≡◌, ℕ, suc, Bool, true, false, Option, Some}
-use Rattle.bas_ast.specs.Tree.{Cond, Loopc, If, Elseif, Else, Do, Loop, End, LineItem, OfSimple, OfPart, NumLine, Sections, NoSections, MoreSections}
+use Rattle.bas_ast.specs.Tree.{Cond, Loopc, If, Elseif, Else, Do, Loop, End, LineItem, Nothing, Rem, OfSimple, OfPart, NumLine, Sections, NoSections, MoreSections}
 use Rattle.bas_mean.specs.Outcome.{LineOf, EndOf, TurnOf}
 use Rattle.bas_mean.specs.Place.{Closing, Bare, ClosedBy}
 use Rattle.bas_mean.specs.Construct.{in_do}
 use Rattle.bas_code.specs.declared.instr.Instr.TheVariants as instr
 use Rattle.bas_code.specs.declared.instr.JumpInstr.TheVariants.{Jump}
 use Rattle.bas_code.specs.declared.instr.RunInstr.TheVariants as run
-use Rattle.bas_carry.specs.Text.{Text, Static, looped, At, OneAt, NotBuiltAt, RowAt, LineAt}
+use Rattle.bas_carry.specs.Text.{Text, Static, looped, At, NoneAt, OneAt, NotBuiltAt, RowAt, LineAt}
 use Rattle.bas_carry.specs.Conditions.{UnlessAt, LoopcAt}
 use Rattle.bas_carry.specs.Simples.{SimpleAt}
 
@@ -89,10 +89,12 @@ module _ (text : Text) where
       closing_of Bare from to = from ≡ to
       closing_of (ClosedBy opener close) from to = item_of opener close.line close.item from to
 
-  -- a line alone; CONTINUE goes on at the next line
+  -- a line alone, of which a remark is the mark; CONTINUE goes on at the next line
   abbrev pub SingleAt : Static → NumLine → ℕ → ℕ → Type 0
   SingleAt st head = item_of head.item
     where
       item_of : LineItem → ℕ → ℕ → Type 0
+      item_of Nothing from to = LineAt text head.line to (NoneAt text) from to
+      item_of (Rem bytes) from to = LineAt text head.line to (NoneAt text) from to
       item_of (OfSimple s) from to = LineAt text head.line to (SimpleAt text st s) from to
       item_of _ from to = NotBuiltAt text from to

@@ -1,7 +1,7 @@
 -- The line table of a program, and the address of each target, as functions. The address of a
 -- target is the one that stands with it in the list of all targets.
 use Rattle.std.specs.Prelude.{◌≡◌, ℕ, suc, ◌+◌, Bool, true, false, ◌&&◌, List, [], ◌∷◌, ◌++◌, length, Option, Some, nat_eq, nat_lt, slice_get, if◌then◌else◌}
-use Rattle.bas_ast.specs.Tree.{Cond, Loopc, Alone, If, Elseif, Else, Do, Loop, End, LineItem, OfSimple, OfPart, NumLine, Stmt, Single, Nest, Sections, NoSections, MoreSections, Block, NoStmts, MoreStmts, Program, SourceUnit}
+use Rattle.bas_ast.specs.Tree.{Cond, Loopc, Alone, If, Elseif, Else, Do, Loop, End, LineItem, Nothing, Rem, OfSimple, OfPart, NumLine, Stmt, Single, Nest, Sections, NoSections, MoreSections, Block, NoStmts, MoreStmts, Program, SourceUnit}
 use Rattle.bas_mean.specs.Outcome.{Target, LineOf, EndOf, TurnOf}
 use Rattle.bas_mean.specs.Block.{line_of}
 use Rattle.bas_mean.specs.Built.{is_built_block, is_end}
@@ -23,6 +23,8 @@ entry l start end next = record { line = l; start = start; end = end; next = nex
 
 -- a line alone: CONTINUE goes on behind it
 abbrev pub single_rows : (l : ℕ) → LineItem → (from : ℕ) → List LineEntry
+single_rows l Nothing from = entry l from (suc from) (suc from) ∷ []
+single_rows l (Rem bytes) from = entry l from (suc from) (suc from) ∷ []
 single_rows l (OfSimple (Alone plain)) from = entry l from (from + single_size (OfSimple (Alone plain))) (from + single_size (OfSimple (Alone plain))) ∷ []
 single_rows l _ from = []
 

@@ -1,8 +1,8 @@
 -- A file has no line that is not built exactly where it is built.
 use Rattle.std.proofs.Common.{◌≡◌, ℕ, Bool, true, false, ◌&&◌, List, [], ◌∷◌, Option, Some, None, refl, sym, ap, ◌∙◌}
 use Rattle.bas_ast.specs.Tree.{If, Elseif, Else, Do, LineItem, OfPart, NumLine, Stmt, Single, Nest, Sections, NoSections, MoreSections, Block, NoStmts, MoreStmts, SourceUnit, ProgramUnit, ProcedureUnit, ModuleUnit}
-use Rattle.bas_mean.specs.Built.{is_built_single, is_built_section, is_built_stmt, are_built_sections, is_built_block, is_built_unit, is_end, is_none_line, are_built}
-use Rattle.bas_check.specs.Unbuilt.{is_built_head, is_built_close, are_closed, first_found, unless_built, unbuilt_in_stmt, unbuilt_in_sections, unbuilt_in_block, unbuilt_in_unit, line_of_head, line_of_block, line_of_unit, unbuilt_line, TellsBuilt}
+use Rattle.bas_mean.specs.Built.{is_built_single, is_built_section, is_built_stmt, are_built_sections, is_built_block, is_built_unit, is_end, is_built_program_line, is_built_program_head, are_built}
+use Rattle.bas_check.specs.Unbuilt.{is_built_head, is_built_close, are_closed, first_found, unless_built, unbuilt_in_stmt, unbuilt_in_sections, unbuilt_in_block, unbuilt_in_head, unbuilt_in_unit, line_of_head, line_of_block, line_of_unit, unbuilt_line, TellsBuilt}
 
 abbrev nothing : Option ℕ → Bool
 nothing None = true
@@ -16,9 +16,9 @@ nothing_unless : (b : Bool) (line : ℕ) → nothing (unless_built b line) ≡ b
 nothing_unless true line = refl
 nothing_unless false line = refl
 
-nothing_head : (head : Option NumLine) → nothing (line_of_head head) ≡ is_none_line head
+nothing_head : (head : Option NumLine) → nothing (unbuilt_in_head head) ≡ is_built_program_head head
 nothing_head None = refl
-nothing_head (Some l) = refl
+nothing_head (Some l) = nothing_unless (is_built_program_line l.item) l.line
 
 section_tells : (head close : LineItem) → (is_built_head head && is_built_close head close) ≡ is_built_section head close
 section_tells (OfPart (If c)) close = refl
@@ -67,11 +67,11 @@ mutual
 unit_tells : (u : SourceUnit) → nothing (unbuilt_in_unit u) ≡ is_built_unit u
 unit_tells (ProgramUnit p) =
     let close = unless_built (is_end p.close.item) p.close.line in
-    nothing_first (line_of_head p.head) (first_found (unbuilt_in_block p.body) close)
+    nothing_first (unbuilt_in_head p.head) (first_found (unbuilt_in_block p.body) close)
     ∙ ap (λ b. b && nothing (first_found (unbuilt_in_block p.body) close)) (nothing_head p.head)
-    ∙ ap (λ b. is_none_line p.head && b) (nothing_first (unbuilt_in_block p.body) close)
-    ∙ ap (λ b. is_none_line p.head && (b && nothing close)) (block_tells p.body)
-    ∙ ap (λ b. is_none_line p.head && (is_built_block p.body && b)) (nothing_unless (is_end p.close.item) p.close.line)
+    ∙ ap (λ b. is_built_program_head p.head && b) (nothing_first (unbuilt_in_block p.body) close)
+    ∙ ap (λ b. is_built_program_head p.head && (b && nothing close)) (block_tells p.body)
+    ∙ ap (λ b. is_built_program_head p.head && (is_built_block p.body && b)) (nothing_unless (is_end p.close.item) p.close.line)
 unit_tells (ProcedureUnit p) = refl
 unit_tells (ModuleUnit m) = refl
 

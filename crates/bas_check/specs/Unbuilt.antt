@@ -1,18 +1,8 @@
 -- The first line of a file that has a construct which is not built.
-use Rattle.std.specs.Prelude.{◌≡◌, ℕ, Bool, true, false, ◌&&◌, List, [], ◌∷◌, Option, Some, None, take, drop}
+use Rattle.std.specs.Prelude.{◌≡◌, ℕ, Bool, true, false, ◌&&◌, List, [], ◌∷◌, Option, Some, None}
 use Rattle.bas_ast.specs.Tree.{If, Elseif, Else, Do, LineItem, OfPart, NumLine, Stmt, Single, Nest, Sections, NoSections, MoreSections, Block, NoStmts, MoreStmts, Program, SourceUnit, ProgramUnit, ProcedureUnit, ModuleUnit}
 use Rattle.bas_mean.specs.Block.{line_of}
-use Rattle.bas_mean.specs.Built.{supplied_names, is_built_cond, is_built_loopc, is_built_single, is_built_loop, is_end_if, is_end, are_built}
-
--- the names of the supplied functions, in three parts
-abbrev pub first_supplied : List (List ℕ)
-first_supplied = take 10 supplied_names
-
-abbrev pub second_supplied : List (List ℕ)
-second_supplied = take 10 (drop 10 supplied_names)
-
-abbrev pub third_supplied : List (List ℕ)
-third_supplied = drop 10 (drop 10 supplied_names)
+use Rattle.bas_mean.specs.Built.{is_built_cond, is_built_loopc, is_built_single, is_built_loop, is_end_if, is_end, is_built_program_line, are_built}
 
 -- a line that opens a section
 abbrev pub is_built_head : LineItem → Bool
@@ -74,10 +64,15 @@ abbrev pub line_of_block : Block → Option ℕ
 line_of_block NoStmts = None
 line_of_block (MoreStmts s rest) = Some (line_of s)
 
+-- the PROGRAM line, where it is written and not built
+abbrev pub unbuilt_in_head : Option NumLine → Option ℕ
+unbuilt_in_head None = None
+unbuilt_in_head (Some head) = unless_built (is_built_program_line head.item) head.line
+
 -- a program: its PROGRAM line, its statements, and END
 abbrev pub unbuilt_in_program : Program → Option ℕ
 unbuilt_in_program p =
-    first_found (line_of_head p.head) (first_found (unbuilt_in_block p.body) (unless_built (is_end p.close.item) p.close.line))
+    first_found (unbuilt_in_head p.head) (first_found (unbuilt_in_block p.body) (unless_built (is_end p.close.item) p.close.line))
 
 -- a procedure and a module are not built from their first line on
 abbrev pub unbuilt_in_unit : SourceUnit → Option ℕ

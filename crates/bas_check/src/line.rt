@@ -1,6 +1,6 @@
 //! Which lines are built.
 
-ghost use Rattle.std.specs.Prelude.{◌≡◌};
+ghost use Rattle.std.specs.Prelude.{◌≡◌, ◌==◌, length};
 ghost use Rattle.std.specs.Option.{option_map};
 ghost use Rattle.bas_ast.specs.PartTree.{loopc_tree};
 ghost use Rattle.bas_ast.specs.BlockTree.{item_tree};
@@ -9,13 +9,14 @@ ghost use Rattle.bas_mean.specs.Built.{
   is_built_single,
   is_end_if as end_if,
   is_end as end,
+  is_built_program_line as built_program_line,
   is_built_loop as built_loop,
 };
 ghost use Rattle.bas_check.specs.Unbuilt.{is_built_head as built_head, is_built_close as built_close};
 
 use crate::condition::is_built_condition;
 use crate::statement::is_built_statement;
-use bas_ast::{LineItem, Loopc, Part, Simple};
+use bas_ast::{Formals, LineItem, Loopc, Part, Simple};
 
 #[tactic(auto, unfolding(bas_ast::specs::PartTree::loopc_tree))]
 fn is_built_loopc(loopc: &Option<Loopc>) -> bool
@@ -36,6 +37,28 @@ pub fn is_built_line(item: &LineItem) -> bool
     match item {
         LineItem::Simple(simple) => match simple.get() {
             Simple::Plain(plain) => is_built_statement(plain),
+            _ => false,
+        },
+        LineItem::Rem(_) => true,
+        LineItem::Nothing => true,
+        _ => false,
+    }
+}
+
+fn has_no_formals(formals: &Formals) -> bool
+    ensures { result ≡ (length formals.now.formals == 0) }
+{
+    formals.formals.items().is_empty()
+}
+
+/// Whether a line is `PROGRAM` without formals.
+#[tactic(auto, unfolding(bas_ast::specs::BlockTree::item_tree, bas_ast::specs::PartTree::part_tree))]
+pub fn is_built_program_line(item: &LineItem) -> bool
+    ensures { result ≡ built_program_line (item_tree item.now) }
+{
+    match item {
+        LineItem::Part(part) => match part.get() {
+            Part::Program(_, formals) => has_no_formals(formals),
             _ => false,
         },
         _ => false,

@@ -1,8 +1,7 @@
 //! Names of numeric variables.
 
-ghost use Rattle.std.specs.Prelude.{◌≡◌, bytes_eq};
+ghost use Rattle.std.specs.Prelude.{◌≡◌, bytes_eq, take, drop};
 ghost use Rattle.bas_mean.specs.Built.{supplied_names, is_among, is_numeric_name as is_numeric};
-ghost use Rattle.bas_check.specs.Unbuilt.{first_supplied, second_supplied, third_supplied};
 
 use bas_base::Name;
 
@@ -13,7 +12,7 @@ fn spells(text: &[u8], word: &[u8]) -> bool
 }
 
 fn is_first_supplied(text: &[u8]) -> bool
-    ensures { result ≡ is_among text.now first_supplied }
+    ensures { result ≡ is_among text.now (take 10 supplied_names) }
 {
     spells(text, b"ABS")
         || spells(text, b"SGN")
@@ -28,7 +27,7 @@ fn is_first_supplied(text: &[u8]) -> bool
 }
 
 fn is_second_supplied(text: &[u8]) -> bool
-    ensures { result ≡ is_among text.now second_supplied }
+    ensures { result ≡ is_among text.now (take 10 (drop 10 supplied_names)) }
 {
     spells(text, b"SQR")
         || spells(text, b"MAX")
@@ -43,7 +42,7 @@ fn is_second_supplied(text: &[u8]) -> bool
 }
 
 fn is_third_supplied(text: &[u8]) -> bool
-    ensures { result ≡ is_among text.now third_supplied }
+    ensures { result ≡ is_among text.now (drop 20 supplied_names) }
 {
     spells(text, b"ORD")
         || spells(text, b"CHR$")

@@ -4,10 +4,10 @@ use crate::{
     is_built_condition, is_built_expression, is_built_line, is_built_statement, unbuilt_line,
 };
 use bas_ast::{
-    Args, Block, Cond, Conj, Expr, Factor, LineItem, Loopc, NumLine, Part, Plain, Primary,
-    Procedure, Program, Rel, Section, Simple, Stmt, Term, TermSign, Test, Unit,
+    Args, Block, Cond, Conj, Expr, Factor, Formal, Formals, LineItem, Loopc, NumLine, Part, Plain,
+    Primary, Procedure, Program, Rel, Section, Simple, Stmt, Term, TermSign, Test, Unit,
 };
-use bas_base::{Line, Name};
+use bas_base::{Line, Name, Seq};
 use sqlite_items::{Boxed, Items};
 use std::alloc::{AllocError, Global};
 use std::test::Fail;
@@ -71,17 +71,31 @@ fn construct(alloc: Global, head: Part, inner: Plain, close: Part) -> Result<Stm
     Ok(Stmt::Nest { sections, end })
 }
 
-// A statement, and 40 END
-fn program_of(alloc: Global, stmt: Stmt) -> Result<Unit, Fail> {
+// A PROGRAM line, a statement, and 40 END
+fn headed(alloc: Global, head: Option<NumLine>, stmt: Stmt) -> Result<Unit, Fail> {
     let forty = Line::of(40).ok_or("no line")?;
     let mut stmts = Items::new(alloc);
     stmts.push(stmt)?;
     Ok(Unit::Program(Program {
         name: Name::of(b"MAIN").ok_or("no name")?,
-        head: None,
+        head,
         body: Block { stmts },
         end: part_of(alloc, forty, Part::End)?,
     }))
+}
+
+// A statement, and 40 END
+fn program_of(alloc: Global, stmt: Stmt) -> Result<Unit, Fail> {
+    headed(alloc, None, stmt)
+}
+
+// 5 PROGRAM P with these formals, 10 a line alone, 40 END
+fn named(alloc: Global, formals: Seq<Formal>, item: LineItem) -> Result<Unit, Fail> {
+    let five = Line::of(5).ok_or("no line")?;
+    let ten = Line::of(10).ok_or("no line")?;
+    let name = Name::of(b"P").ok_or("no name")?;
+    let head = part_of(alloc, five, Part::Program(name, Formals { formals }))?;
+    headed(alloc, Some(head), Stmt::Single(NumLine { line: ten, item }))
 }
 
 fn number_of(found: Option<Line>) -> Option<u32> {
@@ -109,7 +123,6 @@ fn names_and_operators(rt: HostRuntime) -> Result<(), Fail> {
     e.rest.push((TermSign::Join, variable(alloc, a)))?;
     assert!(rt; !is_built_expression(&e));
     assert!(rt; is_built_statement(&Plain::ExitDo));
-    assert!(rt; !is_built_line(&LineItem::Nothing));
     Ok(())
 }
 
@@ -140,6 +153,21 @@ fn first_line_of_a_construct(rt: HostRuntime) -> Result<(), Fail> {
         number_of(unbuilt_line(&[program_of(alloc, close)?])),
         Some(30)
     );
+    Ok(())
+}
+
+#[test]
+fn remarks_and_the_program_line(rt: HostRuntime) -> Result<(), Fail> {
+    let alloc = rt.alloc();
+    let x = Name::of(b"X").ok_or("no name")?;
+    let remark = LineItem::Rem(Seq::of(vec![in alloc; b' ', b'A']?));
+    assert!(rt; is_built_line(&remark));
+    assert!(rt; is_built_line(&LineItem::Nothing));
+    let without = named(alloc, Seq::of(Vec::new(alloc)), remark)?;
+    assert_eq!(rt; number_of(unbuilt_line(&[without])), None);
+    let formals = Seq::of(vec![in alloc; Formal::Name(x, 0)]?);
+    let with = named(alloc, formals, LineItem::Nothing)?;
+    assert_eq!(rt; number_of(unbuilt_line(&[with])), Some(5));
     Ok(())
 }
 

@@ -7,7 +7,7 @@ ghost use Rattle.bas_ast.specs.UnitTree.{unit_tree, program_tree};
 ghost use Rattle.bas_check.specs.Unbuilt as unbuilt;
 
 use crate::block::{line_of_block, unbuilt_in_block, unless_built};
-use crate::line::is_end;
+use crate::line::{is_built_program_line, is_end};
 use bas_ast::{NumLine, Program, Unit};
 use bas_base::Line;
 
@@ -20,10 +20,19 @@ fn line_of_head(head: &Option<NumLine>) -> Option<Line>
     }
 }
 
+fn unbuilt_in_head(head: &Option<NumLine>) -> Option<Line>
+    ensures { result ≡ unbuilt.unbuilt_in_head (option_map line_tree head.now) }
+{
+    match head {
+        Some(head) => unless_built(is_built_program_line(&head.item), head.line),
+        None => None,
+    }
+}
+
 fn unbuilt_in_program(program: &Program) -> Option<Line>
     ensures { result ≡ unbuilt.unbuilt_in_program (program_tree program.now) }
 {
-    match line_of_head(&program.head) {
+    match unbuilt_in_head(&program.head) {
         Some(line) => Some(line),
         None => match unbuilt_in_block(&program.body) {
             Some(line) => Some(line),

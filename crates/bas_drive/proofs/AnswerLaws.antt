@@ -1,144 +1,190 @@
 -- The answer to the words, row by row.
-use Rattle.std.proofs.Common.{◌≡◌, ◌≢◌, ◌↔◌, ◌⊎◌, ℕ, List, [], ◌∷◌, Option, Some, None, Result, Ok, Err, refl, sym, ap, subst, ◌∙◌, inl, inr}
+use Rattle.std.proofs.Common.{◌≡◌, ◌≢◌, ◌↔◌, ◌<◌, ◌≤◌, ℕ, List, length, Bool, true, false, Option, Some, None, Result, Ok, Err, refl, sym, ap, ◌∙◌, arith}
+use Rattle.std.specs.Prelude.{nat_le, nat_lt, if◌then◌else◌}
+use Rattle.std.proofs.lemmas.Bool.{le-leb, leb-true, ltb-false}
 use Rattle.std.specs.FinMap.{get}
 use Rattle.bas_world.specs.Files.{Files}
-use Rattle.bas_dec.specs.Number.{Number}
-use Rattle.bas_dec.specs.declared.fault.DecFault.{DecFault}
-use Rattle.bas_drive.specs.Answer.{command_of, command_answer, file_answer, program_answer, answer_of, FileEnding}
-use Rattle.bas_drive.specs.Form.{program_of}
-use Rattle.bas_drive.specs.Meaning.{Variables, Outcome, outcome_of, outcome_at, with_result, value_of, with_value, printing, print_line, meaning_of, overflow_at, OverflowsIn, all_zero}
+use Rattle.bas_ast.specs.Tree.{Program, SourceUnit}
+use Rattle.bas_mean.specs.World.{Seen}
+use Rattle.bas_mean.specs.Outcome.{RunEnd, Exception}
+use Rattle.bas_mean.specs.Outcome as run
+use Rattle.bas_mean.specs.Meaning.{first_program, mean}
+use Rattle.bas_carry.specs.Slots.{slots_of}
+use Rattle.bas_genexpr.specs.Counts.{code_limit}
+use Rattle.bas_genexpr.specs.Numbering.{slot_limit}
+use Rattle.bas_gen.specs.Generated.{program_size, IsWithin}
+use Rattle.bas_execute.specs.Executed.{SoundIsNotLost}
+use Rattle.bas_accept.specs.Accepted.{accepted_of, HasSoundProgram, TellsAccepted, AcceptedIsSound}
+use Rattle.bas_accept.specs.declared.acceptance.Refusal.{Refusal}
+use Rattle.bas_drive.specs.Answer.{command_of, command_answer, file_answer, source_answer, program_answer, body_answer, run_answer, answer_of}
+use Rattle.bas_drive.specs.Ending.{Outcome, without_output}
 use Rattle.bas_drive.specs.Report.{status_of}
-use Rattle.bas_drive.specs.Run.{RunOf}
-use Rattle.bas_drive.specs.declared.ending.Ending.{Ending}
-use Rattle.bas_drive.specs.declared.ending.Ending.TheVariants as ending
-use Rattle.bas_drive.specs.declared.status.Status.{Status}
-use Rattle.bas_drive.specs.declared.status.Status.TheVariants as status
+use Rattle.bas_drive.specs.declared.top.TheConstants.{SOURCE_BYTES}
 use Rattle.bas_drive.specs.declared.words.Command.{Command}
 use Rattle.bas_drive.specs.declared.words.Command.TheVariants.{Go}
-use Rattle.bas_drive.specs.declared.program.NumberedItem.{NumberedItem}
-use Rattle.bas_drive.specs.declared.program.Item.{Item}
-use Rattle.bas_drive.specs.declared.program.Item.TheVariants.{Let, Print, End}
-
--- the ending of a run: END, or an overflow at one of the lines
-abbrev pub RunEnding : List NumberedItem → Ending → Type 0
-RunEnding lines e = (e ≡ ending.Ended) ⊎ OverflowsIn lines e
-
--- a value or a fault at the first line leads to such an ending, if what follows the value does
-after_result :
-    (line : NumberedItem) (lines : List NumberedItem) (r : Result Number DecFault) (next : Number → Outcome) → ((x : Number) → RunEnding lines (next x).ending) →
-    RunEnding (line ∷ lines) (with_result line.line r next).ending
-after_result line lines (Ok x) next ends = further (next x).ending (ends x)
-  where
-    further : (e : Ending) → RunEnding lines e → RunEnding (line ∷ lines) e
-    further e (inl ended) = inl ended
-    further e (inr overflows) = inr (inr overflows)
-after_result line lines (Err fault) next ends = inr (inl refl)
-
--- a line leads to such an ending, if what follows does
-after_line :
-    (line : NumberedItem) (lines : List NumberedItem) (item : Item) (variables : Variables) (next : Variables → Outcome) → ((v : Variables) → RunEnding lines (next v).ending) →
-    RunEnding (line ∷ lines) (outcome_at line.line item variables next).ending
-after_line line lines (Let name sum) variables next ends = after_result line lines (value_of variables sum) (λ x. next (with_value variables name x)) (λ x. ends (with_value variables name x))
-after_line line lines (Print sum) variables next ends = after_result line lines (value_of variables sum) (λ x. printing (print_line x) (next variables)) (λ x. ends variables)
-after_line line lines End variables next ends = inl refl
-
--- every program ends, or overflows at one of its lines
-pub ends_or_overflows : (program : List NumberedItem) (variables : Variables) → RunEnding program (outcome_of program variables).ending
-unfolding outcome_of
-ends_or_overflows [] variables = inl refl
-ends_or_overflows (line ∷ lines) variables = after_line line lines line.item variables (λ v. outcome_of lines v) (λ v. ends_or_overflows lines v)
-
--- an overflow stops, with this number and this unit
-overflow_stops : (lines : List NumberedItem) (e : Ending) → OverflowsIn lines e → (line : ℕ) × (e ≡ overflow_at line)
-overflow_stops [] e none = absurd none
-overflow_stops (line ∷ lines) e (inl here) = (line.line, here)
-overflow_stops (line ∷ lines) e (inr later) = overflow_stops lines e later
+use Rattle.bas_drive.specs.declared.ending.Ending.TheVariants as ends
+use Rattle.bas_drive.specs.declared.status.Status.{Status}
+use Rattle.bas_drive.specs.declared.status.Status.TheVariants as status
+use Rattle.bas_drive.proofs.Running.{same_mean, within_answer}
 
 -- no run has such a status
-pub no_run_is : (s : Status) → status.Ended ≢ s → status.Stopped ≢ s → (program : List NumberedItem) → status_of (meaning_of program).ending ≢ s
-no_run_is s not_ended not_stopped program is = other (ends_or_overflows program all_zero)
+no_run : (s : Status) → status.Ended ≢ s → status.Stopped ≢ s → status.LinesSpent ≢ s → (e : RunEnd) → status_of (run_answer e).ending ≢ s
+no_run s not_ended not_stopped not_spent (run.Ended seen) = not_ended
+no_run s not_ended not_stopped not_spent (run.Stopped x seen) = not_stopped
+no_run s not_ended not_stopped not_spent (run.GoesOn seen) = not_spent
+no_run s not_ended not_stopped not_spent run.Lost = not_ended
+
+-- nor has a body, where TooLarge is another one
+no_body : (s : Status) → status.TooLarge ≢ s → (p : Program) (ran : Outcome) → status_of ran.ending ≢ s → status_of (body_answer p ran).ending ≢ s
+no_body s not_large p ran not_ran = by (nat_lt code_limit (program_size p)) (nat_lt slot_limit (length (slots_of p)))
   where
-    other : RunEnding program (meaning_of program).ending → ⊥
-    other (inl ended) = not_ended (ap (λ e. status_of e) (sym ended) ∙ is)
-    other (inr stopped) = not_stopped (ap (λ e. status_of e) (sym (overflow_stops program (meaning_of program).ending stopped).1) ∙ is)
+    by : (a b : Bool) → status_of (if a then without_output (ends.UnitTooLarge p.name 65536 65535) else if b then without_output (ends.UnitTooLarge p.name 4097 4096) else ran).ending ≢ s
+    by true b = not_large
+    by false true = not_large
+    by false false = not_ran
 
--- a file's text is refused, or run: no other status
-program_is : (s : Status) → status.Ended ≢ s → status.Stopped ≢ s → status.SourceRefused ≢ s → (name : List ℕ) (p : Option (List NumberedItem)) → status_of (program_answer name p).ending ≢ s
-program_is s not_ended not_stopped not_refused name None is = not_refused is
-program_is s not_ended not_stopped not_refused name (Some program) is = no_run_is s not_ended not_stopped program is
+-- a program has none of the other statuses
+no_program : (s : Status) → status.Ended ≢ s → status.Stopped ≢ s → status.LinesSpent ≢ s → status.TooLarge ≢ s → (p : Program) (e : RunEnd) → status_of (body_answer p (run_answer e)).ending ≢ s
+no_program s a b c d p e = no_body s d p (run_answer e) (no_run s a b c e)
 
--- only a file that is no program is refused
-refused_only : (name : List ℕ) (p : Option (List NumberedItem)) → status_of (program_answer name p).ending ≡ status.SourceRefused → p ≡ None
-refused_only name None is = refl
-refused_only name (Some program) is = absurd (no_run_is status.SourceRefused (λ e. cc) (λ e. cc) program is)
+-- a file that is there is not missing, and no usage
+no_units : (s : Status) → status.Ended ≢ s → status.Stopped ≢ s → status.LinesSpent ≢ s → status.TooLarge ≢ s → status.SourceRefused ≢ s → (name : List ℕ) (lines : ℕ) (input : List ℕ) (units : List SourceUnit) (o : Option Program) → status_of (program_answer name units lines input o).ending ≢ s
+no_units s a b c d r name lines input units None = r
+no_units s a b c d r name lines input units (Some p) = no_program s a b c d p (mean units lines input)
 
--- only a file that is not there is missing
-missing_only : (name : List ℕ) (file : Option (List ℕ)) → status_of (file_answer name file).ending ≡ status.FileMissing → file ≡ None
-missing_only name None is = refl
-missing_only name (Some bytes) is = absurd (program_is status.FileMissing (λ e. cc) (λ e. cc) (λ e. cc) name (program_of bytes) is)
+no_source : (s : Status) → status.Ended ≢ s → status.Stopped ≢ s → status.LinesSpent ≢ s → status.TooLarge ≢ s → status.SourceRefused ≢ s → (name : List ℕ) (lines : ℕ) (input : List ℕ) (found : Result (List SourceUnit) Refusal) → status_of (source_answer name lines input found).ending ≢ s
+no_source s a b c d r name lines input (Err refusal) = r
+no_source s a b c d r name lines input (Ok units) = no_units s a b c d r name lines input units (first_program units)
 
--- a command is no usage
-file_is_no_usage : (name : List ℕ) (file : Option (List ℕ)) → status_of (file_answer name file).ending ≢ status.Usage
-file_is_no_usage name None is = cc
-file_is_no_usage name (Some bytes) is = program_is status.Usage (λ e. cc) (λ e. cc) (λ e. cc) name (program_of bytes) is
+no_bytes : (s : Status) → status.Ended ≢ s → status.Stopped ≢ s → status.LinesSpent ≢ s → status.TooLarge ≢ s → status.SourceRefused ≢ s → (name : List ℕ) (lines : ℕ) (input bytes : List ℕ) → status_of (file_answer name lines input (Some bytes)).ending ≢ s
+no_bytes s a b c d r name lines input bytes = by (nat_le (length bytes) SOURCE_BYTES)
+  where
+    by : (fits : Bool) → status_of (if fits then source_answer name lines input (accepted_of bytes) else without_output (ends.FileTooLarge name (length bytes))).ending ≢ s
+    by true = no_source s a b c d r name lines input (accepted_of bytes)
+    by false = d
 
-usage_only : (command : Option Command) (files : Files) → status_of (command_answer command files).ending ≡ status.Usage → command ≡ None
-usage_only None files is = refl
-usage_only (Some (Go name)) files is = absurd (file_is_no_usage name (get files name) is)
+pub no_usage : (name : List ℕ) (lines : ℕ) (input : List ℕ) (file : Option (List ℕ)) → status_of (file_answer name lines input file).ending ≢ status.Usage
+no_usage name lines input None = λ e. absurd (cc)
+no_usage name lines input (Some bytes) = no_bytes status.Usage (λ e. absurd (cc)) (λ e. absurd (cc)) (λ e. absurd (cc)) (λ e. absurd (cc)) (λ e. absurd (cc)) name lines input bytes
 
-pub usage_row : (words : List (List ℕ)) (files : Files) → (status_of (answer_of words files).ending ≡ status.Usage) ↔ (command_of words ≡ None)
-usage_row words files = (usage_only (command_of words) files, λ none. ap (λ c. status_of (command_answer c files).ending) none)
+usage_only : (command : Option Command) (files : Files) (input : List ℕ) → status_of (command_answer command files input).ending ≡ status.Usage → command ≡ None
+usage_only None files input is = refl
+usage_only (Some (Go name lines)) files input is = absurd (no_usage name lines input (get files name) is)
 
--- the answer to `go` is that of its file
-at_file : (words : List (List ℕ)) (files : Files) (name : List ℕ) → command_of words ≡ Some (Go name) → answer_of words files ≡ file_answer name (get files name)
-at_file words files name go = ap (λ c. command_answer c files) go
+pub usage_row : (words : List (List ℕ)) (files : Files) (input : List ℕ) → (status_of (answer_of words files input).ending ≡ status.Usage) ↔ (command_of words ≡ None)
+usage_row words files input = (usage_only (command_of words) files input, λ none. ap (λ c. status_of (command_answer c files input).ending) none)
 
-pub missing_row :
-    (words : List (List ℕ)) (files : Files) (name : List ℕ) → command_of words ≡ Some (Go name) → (status_of (answer_of words files).ending ≡ status.FileMissing) ↔ (get files name ≡ None)
-missing_row words files name go =
-    let at = at_file words files name go in (
-      λ is. missing_only name (get files name) (ap (λ a. status_of a.ending) (sym at) ∙ is),
-      λ none. ap (λ a. status_of a.ending) at ∙ ap (λ f. status_of (file_answer name f).ending) none,
+-- the answer to `go` is that for its file
+at_file : (words : List (List ℕ)) (files : Files) (input name : List ℕ) (lines : ℕ) → command_of words ≡ Some (Go name lines) → answer_of words files input ≡ file_answer name lines input (get files name)
+at_file words files input name lines go = ap (λ c. command_answer c files input) go
+
+missing_only : (name : List ℕ) (lines : ℕ) (input : List ℕ) (file : Option (List ℕ)) → status_of (file_answer name lines input file).ending ≡ status.FileMissing → file ≡ None
+missing_only name lines input None is = refl
+missing_only name lines input (Some bytes) is = absurd (no_bytes status.FileMissing (λ e. absurd (cc)) (λ e. absurd (cc)) (λ e. absurd (cc)) (λ e. absurd (cc)) (λ e. absurd (cc)) name lines input bytes is)
+
+pub missing_row : (words : List (List ℕ)) (files : Files) (input name : List ℕ) (lines : ℕ) → command_of words ≡ Some (Go name lines) → (status_of (answer_of words files input).ending ≡ status.FileMissing) ↔ (get files name ≡ None)
+missing_row words files input name lines go =
+    let at = at_file words files input name lines go in (
+      λ is. missing_only name lines input (get files name) (ap (λ a. status_of a.ending) (sym at) ∙ is),
+      λ none. ap (λ a. status_of a.ending) at ∙ ap (λ f. status_of (file_answer name lines input f).ending) none,
     )
 
--- the answer to `go` for a file that is there is that of its text
-at_text : (words : List (List ℕ)) (files : Files) (name bytes : List ℕ) → command_of words ≡ Some (Go name) → get files name ≡ Some bytes → answer_of words files ≡ program_answer name (program_of bytes)
-at_text words files name bytes go there = at_file words files name go ∙ ap (λ f. file_answer name f) there
+-- the answer to `go` for a file that is there
+at_bytes : (words : List (List ℕ)) (files : Files) (input name bytes : List ℕ) (lines : ℕ) → command_of words ≡ Some (Go name lines) → get files name ≡ Some bytes → answer_of words files input ≡ file_answer name lines input (Some bytes)
+at_bytes words files input name bytes lines go there = at_file words files input name lines go ∙ ap (λ f. file_answer name lines input f) there
 
-pub refused_row :
-    (words : List (List ℕ)) (files : Files) (name bytes : List ℕ) → command_of words ≡ Some (Go name) → get files name ≡ Some bytes →
-    (status_of (answer_of words files).ending ≡ status.SourceRefused) ↔ (program_of bytes ≡ None)
-refused_row words files name bytes go there =
-    let at = at_text words files name bytes go there in (
-      λ is. refused_only name (program_of bytes) (ap (λ a. status_of a.ending) (sym at) ∙ is),
-      λ none. ap (λ a. status_of a.ending) at ∙ ap (λ p. status_of (program_answer name p).ending) none,
+-- a number above a limit is not at most it
+pub above : (n limit : ℕ) → limit < n → (b : Bool) → nat_le n limit ≡ b → b ≡ false
+above n limit h true e = let within : n ≤ limit = leb-true n limit e in absurd (omega (arith, h, within))
+above n limit h false e = refl
+
+pub large_row : (words : List (List ℕ)) (files : Files) (input name bytes : List ℕ) (lines : ℕ) → command_of words ≡ Some (Go name lines) → get files name ≡ Some bytes → SOURCE_BYTES < length bytes → answer_of words files input ≡ without_output (ends.FileTooLarge name (length bytes))
+large_row words files input name bytes lines go there large =
+    at_bytes words files input name bytes lines go there
+    ∙ ap (λ b. if b then source_answer name lines input (accepted_of bytes) else without_output (ends.FileTooLarge name (length bytes))) (above (length bytes) SOURCE_BYTES large (nat_le (length bytes) SOURCE_BYTES) refl)
+
+-- the answer to `go` for a file that is not too large
+at_source : (words : List (List ℕ)) (files : Files) (input name bytes : List ℕ) (lines : ℕ) → command_of words ≡ Some (Go name lines) → get files name ≡ Some bytes → length bytes ≤ SOURCE_BYTES → answer_of words files input ≡ source_answer name lines input (accepted_of bytes)
+at_source words files input name bytes lines go there fits =
+    at_bytes words files input name bytes lines go there
+    ∙ ap (λ b. if b then source_answer name lines input (accepted_of bytes) else without_output (ends.FileTooLarge name (length bytes))) (le-leb (length bytes) SOURCE_BYTES fits)
+
+pub told_row : (words : List (List ℕ)) (files : Files) (input name bytes : List ℕ) (lines : ℕ) (r : Refusal) → command_of words ≡ Some (Go name lines) → get files name ≡ Some bytes → length bytes ≤ SOURCE_BYTES → accepted_of bytes ≡ Err r → answer_of words files input ≡ without_output (ends.Refused name r)
+told_row words files input name bytes lines r go there fits refused = at_source words files input name bytes lines go there fits ∙ ap (λ f. source_answer name lines input f) refused
+
+-- the program of accepted units
+has_program : TellsAccepted → AcceptedIsSound → (bytes : List ℕ) (units : List SourceUnit) → accepted_of bytes ≡ Ok units → HasSoundProgram units
+has_program tells sound bytes units is = sound bytes units (tells.found bytes units is)
+
+refused_only : (name : List ℕ) (lines : ℕ) (input : List ℕ) (found : Result (List SourceUnit) Refusal) → ((units : List SourceUnit) → found ≡ Ok units → HasSoundProgram units) → status_of (source_answer name lines input found).ending ≡ status.SourceRefused → (r : Refusal) × (found ≡ Err r)
+refused_only name lines input (Err r) has is = (r, refl)
+refused_only name lines input (Ok units) has is =
+    let h = has units refl in
+    absurd (no_program status.SourceRefused (λ e. absurd (cc)) (λ e. absurd (cc)) (λ e. absurd (cc)) (λ e. absurd (cc)) h.program (mean units lines input) (ap (λ o. status_of (program_answer name units lines input o).ending) (sym h.is_first) ∙ is))
+
+pub refused_row : TellsAccepted → AcceptedIsSound → (words : List (List ℕ)) (files : Files) (input name bytes : List ℕ) (lines : ℕ) → command_of words ≡ Some (Go name lines) → get files name ≡ Some bytes → length bytes ≤ SOURCE_BYTES → (status_of (answer_of words files input).ending ≡ status.SourceRefused) ↔ ((r : Refusal) × (accepted_of bytes ≡ Err r))
+refused_row tells sound words files input name bytes lines go there fits =
+    let at = at_source words files input name bytes lines go there fits in (
+      λ is. refused_only name lines input (accepted_of bytes) (λ units e. has_program tells sound bytes units e) (ap (λ a. status_of a.ending) (sym at) ∙ is),
+      λ r. ap (λ a. status_of a.ending) (at ∙ ap (λ f. source_answer name lines input f) r.1),
     )
 
-pub program_row :
-    (words : List (List ℕ)) (files : Files) (name bytes : List ℕ) (program : List NumberedItem) → command_of words ≡ Some (Go name) → get files name ≡ Some bytes → program_of bytes ≡ Some program →
-    answer_of words files ≡ meaning_of program
-program_row words files name bytes program go there is_program = at_text words files name bytes go there ∙ ap (λ p. program_answer name p) is_program
+-- the answer to `go` for accepted units
+at_program : (words : List (List ℕ)) (files : Files) (input name bytes : List ℕ) (lines : ℕ) (units : List SourceUnit) (p : Program) → command_of words ≡ Some (Go name lines) → get files name ≡ Some bytes → length bytes ≤ SOURCE_BYTES → accepted_of bytes ≡ Ok units → first_program units ≡ Some p → answer_of words files input ≡ body_answer p (run_answer (mean units lines input))
+at_program words files input name bytes lines units p go there fits is_units is_first =
+    at_source words files input name bytes lines go there fits ∙ ap (λ f. source_answer name lines input f) is_units ∙ ap (λ o. program_answer name units lines input o) is_first
 
--- the ending of a run, or of a refused text, is one that `go` can have
-run_can_end : (name : List ℕ) (program : List NumberedItem) (e : Ending) → RunEnding program e → FileEnding name e
-run_can_end name program e (inl ended) = subst (λ v. FileEnding name v) (sym ended) tt
-run_can_end name program e (inr stopped) = subst (λ v. FileEnding name v) (sym (overflow_stops program e stopped).1) (refl, refl)
+pub meant_row : (words : List (List ℕ)) (files : Files) (input name bytes : List ℕ) (lines : ℕ) (units : List SourceUnit) (p : Program) → command_of words ≡ Some (Go name lines) → get files name ≡ Some bytes → length bytes ≤ SOURCE_BYTES → accepted_of bytes ≡ Ok units → first_program units ≡ Some p → IsWithin p → answer_of words files input ≡ run_answer (mean units lines input)
+meant_row words files input name bytes lines units p go there fits is_units is_first within =
+    at_program words files input name bytes lines units p go there fits is_units is_first ∙ within_answer p (run_answer (mean units lines input)) within
 
-program_can_end : (name : List ℕ) (p : Option (List NumberedItem)) → FileEnding name (program_answer name p).ending
-program_can_end name None = refl
-program_can_end name (Some program) = run_can_end name program (meaning_of program).ending (ends_or_overflows program all_zero)
+-- a body that is not within its limits is told
+passed : (p : Program) (ran : Outcome) → (IsWithin p → ⊥) → status_of (body_answer p ran).ending ≡ status.TooLarge
+passed p ran not_within = by (nat_lt code_limit (program_size p)) (nat_lt slot_limit (length (slots_of p))) refl refl
+  where
+    by : (a b : Bool) → nat_lt code_limit (program_size p) ≡ a → nat_lt slot_limit (length (slots_of p)) ≡ b → status_of (if a then without_output (ends.UnitTooLarge p.name 65536 65535) else if b then without_output (ends.UnitTooLarge p.name 4097 4096) else ran).ending ≡ status.TooLarge
+    by true b c d = refl
+    by false true c d = refl
+    by false false c d = absurd (not_within (record { code = ltb-false code_limit (program_size p) c; slots = ltb-false slot_limit (length (slots_of p)) d }))
 
--- what a source file's run comes to is one of these endings, too
-pub source_can_end : (name : List ℕ) (p : Option (List NumberedItem)) (before now : Option (List ℕ)) (e : Ending) → RunOf (program_answer name p) before now e → FileEnding name e
-source_can_end name p before now ending.StoreFault run = tt
-source_can_end name p before now ending.OutputFault run = tt
-source_can_end name p before now ending.Memory run = tt
-source_can_end name p before now ending.Ended run = tt
-source_can_end name p before now (ending.Stopped at) run = subst (λ v. FileEnding name v) (sym run.0) (program_can_end name p)
-source_can_end name p before now ending.Usage run = subst (λ v. FileEnding name v) (sym run.0) (program_can_end name p)
-source_can_end name p before now (ending.Missing other) run = subst (λ v. FileEnding name v) (sym run.0) (program_can_end name p)
-source_can_end name p before now (ending.Refused other) run = subst (λ v. FileEnding name v) (sym run.0) (program_can_end name p)
+pub limit_row : (words : List (List ℕ)) (files : Files) (input name bytes : List ℕ) (lines : ℕ) (units : List SourceUnit) (p : Program) → command_of words ≡ Some (Go name lines) → get files name ≡ Some bytes → length bytes ≤ SOURCE_BYTES → accepted_of bytes ≡ Ok units → first_program units ≡ Some p → (status_of (answer_of words files input).ending ≡ status.TooLarge) ↔ (IsWithin p → ⊥)
+limit_row words files input name bytes lines units p go there fits is_units is_first =
+    let at = at_program words files input name bytes lines units p go there fits is_units is_first in (
+      λ is within. no_run status.TooLarge (λ e. absurd (cc)) (λ e. absurd (cc)) (λ e. absurd (cc)) (mean units lines input) (ap (λ a. status_of a.ending) (sym (at ∙ within_answer p (run_answer (mean units lines input)) within)) ∙ is),
+      λ not_within. ap (λ a. status_of a.ending) at ∙ passed p (run_answer (mean units lines input)) not_within,
+    )
 
--- what running a program comes to is one of these endings
-pub run_can_end_in : (name : List ℕ) (program : List NumberedItem) (before now : Option (List ℕ)) (e : Ending) → RunOf (meaning_of program) before now e → FileEnding name e
-run_can_end_in name program before now e run = source_can_end name (Some program) before now e run
+-- the end of accepted units is not lost
+there_is_an_end : TellsAccepted → AcceptedIsSound → SoundIsNotLost → (bytes input : List ℕ) (lines : ℕ) (units : List SourceUnit) → accepted_of bytes ≡ Ok units → mean units lines input ≢ run.Lost
+there_is_an_end tells sound not_lost bytes input lines units is lost =
+    let h = has_program tells sound bytes units is in not_lost h.program h.sound lines input (same_mean units h.program lines input h.is_first ∙ lost)
+
+pub ended_row : TellsAccepted → AcceptedIsSound → SoundIsNotLost → (bytes input : List ℕ) (lines : ℕ) (units : List SourceUnit) → accepted_of bytes ≡ Ok units → (status_of (run_answer (mean units lines input)).ending ≡ status.Ended) ↔ ((seen : Seen) × (mean units lines input ≡ run.Ended seen))
+ended_row tells sound not_lost bytes input lines units is = (
+  by (mean units lines input) (there_is_an_end tells sound not_lost bytes input lines units is),
+  λ e. ap (λ x. status_of (run_answer x).ending) e.1,
+)
+  where
+    by : (e : RunEnd) → e ≢ run.Lost → status_of (run_answer e).ending ≡ status.Ended → (seen : Seen) × (e ≡ run.Ended seen)
+    by (run.Ended seen) there s = (seen, refl)
+    by (run.Stopped x seen) there s = absurd cc
+    by (run.GoesOn seen) there s = absurd cc
+    by run.Lost there s = absurd (there refl)
+
+pub stopped_row : (input : List ℕ) (lines : ℕ) (units : List SourceUnit) → (status_of (run_answer (mean units lines input)).ending ≡ status.Stopped) ↔ ((x : Exception) × (seen : Seen) × (mean units lines input ≡ run.Stopped x seen))
+stopped_row input lines units = (by (mean units lines input), λ e. ap (λ x. status_of (run_answer x).ending) e.2)
+  where
+    by : (e : RunEnd) → status_of (run_answer e).ending ≡ status.Stopped → (x : Exception) × (seen : Seen) × (e ≡ run.Stopped x seen)
+    by (run.Ended seen) s = absurd cc
+    by (run.Stopped x seen) s = (x, seen, refl)
+    by (run.GoesOn seen) s = absurd cc
+    by run.Lost s = absurd cc
+
+pub spent_row : (input : List ℕ) (lines : ℕ) (units : List SourceUnit) → (status_of (run_answer (mean units lines input)).ending ≡ status.LinesSpent) ↔ ((seen : Seen) × (mean units lines input ≡ run.GoesOn seen))
+spent_row input lines units = (by (mean units lines input), λ e. ap (λ x. status_of (run_answer x).ending) e.1)
+  where
+    by : (e : RunEnd) → status_of (run_answer e).ending ≡ status.LinesSpent → (seen : Seen) × (e ≡ run.GoesOn seen)
+    by (run.Ended seen) s = absurd cc
+    by (run.Stopped x seen) s = absurd cc
+    by (run.GoesOn seen) s = (seen, refl)
+    by run.Lost s = absurd cc

@@ -1,14 +1,13 @@
 -- From the ending of a command, and what was told of it, to the promises of the top call.
-use Rattle.std.proofs.Common.{◌≡◌, ◌≢◌, ℕ, List, Option, Some, None, IfSome, Bool, true, false, IsTrue, ◌<◌, arith, refl, ap, subst, [], ◌∷◌, ◌++◌, inl, inr}
+use Rattle.std.proofs.Common.{◌≡◌, ◌≢◌, ℕ, List, Option, Some, None, IfSome, Bool, true, false, IsTrue, ◌<◌, arith, refl, sym, ap, subst, [], ◌∷◌, ◌++◌, inl, inr}
 use Rattle.bas_world.specs.Files.{Files}
 use Rattle.bas_world.specs.Count.{CountMoves, Rose}
 use Rattle.bas_drive.specs.Answer.{command_of, CanEnd}
 use Rattle.bas_drive.specs.declared.words.Command.{Command}
 use Rattle.bas_drive.specs.declared.words.Command.TheVariants.{Go}
-use Rattle.bas_drive.specs.Took.{TookAll, TookPrefix}
-use Rattle.bas_drive.specs.Meaning.{Outcome}
+use Rattle.bas_vm.specs.Took.{TookAll, TookPrefix}
 use Rattle.bas_drive.specs.Report.{status_of, report_of}
-use Rattle.bas_drive.specs.Run.{RunOf, is_output_fault, is_store_fault}
+use Rattle.bas_drive.specs.Ending.{Outcome, RunOf, is_output_fault, is_store_fault}
 use Rattle.bas_drive.specs.Headline.{IsTold, IsAnswered, AnswersOrGivesUp, TookReportPrefix, TookLineOf, is_report_fault, can_be, tells_fault}
 use Rattle.bas_drive.specs.Headline.IsTold.{Whole, CutByFault, CutByMemory}
 use Rattle.bas_drive.specs.declared.ending.Ending.{Ending}
@@ -16,6 +15,7 @@ use Rattle.bas_drive.specs.declared.ending.Ending.TheVariants as ending
 use Rattle.bas_drive.specs.declared.status.Status.{Status}
 use Rattle.bas_drive.specs.declared.status.Status.TheVariants as status
 use Rattle.bas_drive.proofs.Taking.{TookPrefix-all}
+use Rattle.bas_drive.proofs.AnswerLaws.{no_usage}
 
 -- all of the output was taken, or some: in either case some
 took_some : (answer : Outcome) (before now : Option (List ℕ)) (e : Ending) → RunOf answer before now e → TookPrefix before now answer.output
@@ -26,16 +26,19 @@ took_some answer before now ending.Ended run = TookPrefix-all before now answer.
 took_some answer before now (ending.Stopped at) run = TookPrefix-all before now answer.output run.1
 took_some answer before now ending.Usage run = TookPrefix-all before now answer.output run.1
 took_some answer before now (ending.Missing name) run = TookPrefix-all before now answer.output run.1
-took_some answer before now (ending.Refused name) run = TookPrefix-all before now answer.output run.1
+took_some answer before now ending.LinesSpent run = TookPrefix-all before now answer.output run.1
+took_some answer before now (ending.Refused name refusal) run = TookPrefix-all before now answer.output run.1
+took_some answer before now (ending.FileTooLarge name size) run = TookPrefix-all before now answer.output run.1
+took_some answer before now (ending.UnitTooLarge unit size limit) run = TookPrefix-all before now answer.output run.1
 
 -- an ending that is the answer's, with its output and its report
 answered :
     (answer : Outcome) (out_before out_now report_before report_now : Option (List ℕ)) (e : Ending) → e ≡ answer.ending →
-    TookAll out_before out_now answer.output → TookAll report_before report_now (report_of e) → IsAnswered answer out_before out_now report_before report_now (status_of e)
-answered answer ob on rb rn e is_ending output told = record {
+    TookAll out_before out_now answer.output → answer.report ≡ [] → TookAll report_before report_now (report_of e) → IsAnswered answer out_before out_now report_before report_now (status_of e)
+answered answer ob on rb rn e is_ending output quiet told = record {
   status_is = ap (λ v. status_of v) is_ending;
   output = output;
-  report = subst (λ v. TookAll rb rn (report_of v)) is_ending told;
+  report = subst (λ r. TookAll rb rn (r ++ report_of answer.ending)) (sym quiet) (subst (λ v. TookAll rb rn (report_of v)) is_ending told);
 }
 
 -- an ending that was told whole
@@ -45,11 +48,14 @@ told_whole :
 told_whole answer ob on rb rn ending.StoreFault run told = run
 told_whole answer ob on rb rn ending.OutputFault run told = run
 told_whole answer ob on rb rn ending.Memory run told = run
-told_whole answer ob on rb rn ending.Ended run told = answered answer ob on rb rn ending.Ended run.0 run.1 told
-told_whole answer ob on rb rn (ending.Stopped at) run told = answered answer ob on rb rn (ending.Stopped at) run.0 run.1 told
-told_whole answer ob on rb rn ending.Usage run told = answered answer ob on rb rn ending.Usage run.0 run.1 told
-told_whole answer ob on rb rn (ending.Missing name) run told = answered answer ob on rb rn (ending.Missing name) run.0 run.1 told
-told_whole answer ob on rb rn (ending.Refused name) run told = answered answer ob on rb rn (ending.Refused name) run.0 run.1 told
+told_whole answer ob on rb rn ending.Ended run told = answered answer ob on rb rn ending.Ended run.0 run.1 run.2 told
+told_whole answer ob on rb rn (ending.Stopped at) run told = answered answer ob on rb rn (ending.Stopped at) run.0 run.1 run.2 told
+told_whole answer ob on rb rn ending.Usage run told = answered answer ob on rb rn ending.Usage run.0 run.1 run.2 told
+told_whole answer ob on rb rn (ending.Missing name) run told = answered answer ob on rb rn (ending.Missing name) run.0 run.1 run.2 told
+told_whole answer ob on rb rn ending.LinesSpent run told = answered answer ob on rb rn ending.LinesSpent run.0 run.1 run.2 told
+told_whole answer ob on rb rn (ending.Refused name refusal) run told = answered answer ob on rb rn (ending.Refused name refusal) run.0 run.1 run.2 told
+told_whole answer ob on rb rn (ending.FileTooLarge name size) run told = answered answer ob on rb rn (ending.FileTooLarge name size) run.0 run.1 run.2 told
+told_whole answer ob on rb rn (ending.UnitTooLarge unit size limit) run told = answered answer ob on rb rn (ending.UnitTooLarge unit size limit) run.0 run.1 run.2 told
 
 -- whatever was told: the whole answer, or a failure with some of its output
 pub answers :
@@ -88,25 +94,31 @@ line_of answer ob on before now ending.Ended run some = record { ending = ending
 line_of answer ob on before now (ending.Stopped at) run some = record { ending = ending.Stopped at; is = inl run.0; some = some }
 line_of answer ob on before now ending.Usage run some = record { ending = ending.Usage; is = inl run.0; some = some }
 line_of answer ob on before now (ending.Missing name) run some = record { ending = ending.Missing name; is = inl run.0; some = some }
-line_of answer ob on before now (ending.Refused name) run some = record { ending = ending.Refused name; is = inl run.0; some = some }
+line_of answer ob on before now ending.LinesSpent run some = record { ending = ending.LinesSpent; is = inl run.0; some = some }
+line_of answer ob on before now (ending.Refused name refusal) run some = record { ending = ending.Refused name refusal; is = inl run.0; some = some }
+line_of answer ob on before now (ending.FileTooLarge name size) run some = record { ending = ending.FileTooLarge name size; is = inl run.0; some = some }
+line_of answer ob on before now (ending.UnitTooLarge unit size limit) run some = record { ending = ending.UnitTooLarge unit size limit; is = inl run.0; some = some }
 
 pub line_of_answer :
-    (answer_for : Files → Outcome) (files : Option Files) (ob on before now : Option (List ℕ)) (e : Ending) (s : Status) →
-    IfSome files (λ all. RunOf (answer_for all) ob on e) → IsTold e before now s → IfSome files (λ all. TookLineOf (answer_for all) before now)
+    (answer_for : Files → List ℕ → Outcome) (files : Option Files) (ob on before now : Option (List ℕ)) (e : Ending) (s : Status) →
+    IfSome files (λ all. (input : List ℕ) → RunOf (answer_for all input) ob on e) → IsTold e before now s → IfSome files (λ all. (input : List ℕ) → TookLineOf (answer_for all input) before now)
 line_of_answer answer_for None ob on before now e s run told = tt
-line_of_answer answer_for (Some all) ob on before now e s run told = line_of (answer_for all) ob on before now e run (told_some before now e s told)
+line_of_answer answer_for (Some all) ob on before now e s run told = λ input. line_of (answer_for all input) ob on before now e (run input) (told_some before now e s told)
 
 -- Usage comes only of words that are no command
 can_be_usage : (command : Option Command) (e : Ending) → CanEnd command e → status_of e ≡ status.Usage → command ≡ None
 can_be_usage None e can is = refl
-can_be_usage (Some (Go name)) ending.Usage can is = absurd can
-can_be_usage (Some (Go name)) ending.StoreFault can is = absurd cc
-can_be_usage (Some (Go name)) ending.OutputFault can is = absurd cc
-can_be_usage (Some (Go name)) ending.Memory can is = absurd cc
-can_be_usage (Some (Go name)) ending.Ended can is = absurd cc
-can_be_usage (Some (Go name)) (ending.Stopped at) can is = absurd cc
-can_be_usage (Some (Go name)) (ending.Missing other) can is = absurd cc
-can_be_usage (Some (Go name)) (ending.Refused other) can is = absurd cc
+can_be_usage (Some (Go name lines)) ending.Usage can is = absurd (no_usage name lines can.1 can.0 (ap (λ e. status_of e) (sym can.2)))
+can_be_usage (Some (Go name lines)) ending.StoreFault can is = absurd cc
+can_be_usage (Some (Go name lines)) ending.OutputFault can is = absurd cc
+can_be_usage (Some (Go name lines)) ending.Memory can is = absurd cc
+can_be_usage (Some (Go name lines)) ending.Ended can is = absurd cc
+can_be_usage (Some (Go name lines)) (ending.Stopped at) can is = absurd cc
+can_be_usage (Some (Go name lines)) (ending.Missing other) can is = absurd cc
+can_be_usage (Some (Go name lines)) ending.LinesSpent can is = absurd cc
+can_be_usage (Some (Go name lines)) (ending.Refused other refusal) can is = absurd cc
+can_be_usage (Some (Go name lines)) (ending.FileTooLarge other size) can is = absurd cc
+can_be_usage (Some (Go name lines)) (ending.UnitTooLarge unit size limit) can is = absurd cc
 
 pub told_usage : (command : Option Command) (before now : Option (List ℕ)) (e : Ending) (s : Status) → CanEnd command e → IsTold e before now s → s ≡ status.Usage → command ≡ None
 told_usage command before now e _ can (Whole told) is = can_be_usage command e can is
@@ -140,11 +152,11 @@ whole_answer answer ob on rb rn status.TooLarge given no_store no_input no_outpu
 
 -- the same for a store that may not tell its files
 pub answers_told :
-    (answer_for : Files → Outcome) (files : Option Files) (out_before out_now report_before report_now : Option (List ℕ)) (e : Ending) (s : Status) →
-    IfSome files (λ all. RunOf (answer_for all) out_before out_now e) → IsTold e report_before report_now s →
-    IfSome files (λ all. AnswersOrGivesUp (answer_for all) out_before out_now report_before report_now s)
+    (answer_for : Files → List ℕ → Outcome) (files : Option Files) (out_before out_now report_before report_now : Option (List ℕ)) (e : Ending) (s : Status) →
+    IfSome files (λ all. (input : List ℕ) → RunOf (answer_for all input) out_before out_now e) → IsTold e report_before report_now s →
+    IfSome files (λ all. (input : List ℕ) → AnswersOrGivesUp (answer_for all input) out_before out_now report_before report_now s)
 answers_told answer_for None ob on rb rn e s run told = tt
-answers_told answer_for (Some all) ob on rb rn e s run told = answers (answer_for all) ob on rb rn e s run told
+answers_told answer_for (Some all) ob on rb rn e s run told = λ input. answers (answer_for all input) ob on rb rn e s (run input) told
 
 -- what each status of a failure says of the ending
 ends_in_store_fault : (e : Ending) → status_of e ≡ status.StoreFault → is_store_fault e ≡ true
@@ -155,7 +167,10 @@ ends_in_store_fault ending.Ended is = absurd cc
 ends_in_store_fault (ending.Stopped at) is = absurd cc
 ends_in_store_fault ending.Usage is = absurd cc
 ends_in_store_fault (ending.Missing name) is = absurd cc
-ends_in_store_fault (ending.Refused name) is = absurd cc
+ends_in_store_fault ending.LinesSpent is = absurd cc
+ends_in_store_fault (ending.Refused name refusal) is = absurd cc
+ends_in_store_fault (ending.FileTooLarge name size) is = absurd cc
+ends_in_store_fault (ending.UnitTooLarge unit size limit) is = absurd cc
 
 ends_in_output_fault : (e : Ending) → status_of e ≡ status.OutputFault → is_output_fault e ≡ true
 ends_in_output_fault ending.OutputFault is = refl
@@ -165,7 +180,10 @@ ends_in_output_fault ending.Ended is = absurd cc
 ends_in_output_fault (ending.Stopped at) is = absurd cc
 ends_in_output_fault ending.Usage is = absurd cc
 ends_in_output_fault (ending.Missing name) is = absurd cc
-ends_in_output_fault (ending.Refused name) is = absurd cc
+ends_in_output_fault ending.LinesSpent is = absurd cc
+ends_in_output_fault (ending.Refused name refusal) is = absurd cc
+ends_in_output_fault (ending.FileTooLarge name size) is = absurd cc
+ends_in_output_fault (ending.UnitTooLarge unit size limit) is = absurd cc
 
 no_input_fault : (e : Ending) → status_of e ≢ status.InputFault
 no_input_fault ending.StoreFault is = cc
@@ -175,7 +193,10 @@ no_input_fault ending.Ended is = cc
 no_input_fault (ending.Stopped at) is = cc
 no_input_fault ending.Usage is = cc
 no_input_fault (ending.Missing name) is = cc
-no_input_fault (ending.Refused name) is = cc
+no_input_fault ending.LinesSpent is = cc
+no_input_fault (ending.Refused name refusal) is = cc
+no_input_fault (ending.FileTooLarge name size) is = cc
+no_input_fault (ending.UnitTooLarge unit size limit) is = cc
 
 pub told_store_fault : (before now : Option (List ℕ)) (e : Ending) (s : Status) → IsTold e before now s → s ≡ status.StoreFault → is_store_fault e ≡ true
 told_store_fault before now e _ (Whole told) is = ends_in_store_fault e is
@@ -194,13 +215,13 @@ told_no_input_fault before now e _ (CutByMemory some) is = cc
 
 -- the whole answer where the store tells its files, no count rose, and the answer is not for want of memory
 pub exactly :
-    (answer_for : Files → Outcome) (files : Option Files) (out_before out_now report_before report_now : Option (List ℕ)) (e : Ending) (s : Status) (sb sn ob on rb rn : ℕ) →
-    IfSome files (λ all. RunOf (answer_for all) out_before out_now e) → IsTold e report_before report_now s →
+    (answer_for : Files → List ℕ → Outcome) (files : Option Files) (out_before out_now report_before report_now : Option (List ℕ)) (e : Ending) (s : Status) (sb sn ob on rb rn : ℕ) →
+    IfSome files (λ all. (input : List ℕ) → RunOf (answer_for all input) out_before out_now e) → IsTold e report_before report_now s →
     CountMoves (is_store_fault e) sb sn → CountMoves (is_output_fault e) ob on → CountMoves (is_report_fault s) rb rn →
-    IfSome files (λ all. ¬ Rose sb sn → ¬ Rose ob on → ¬ Rose rb rn → s ≢ status.Memory → IsAnswered (answer_for all) out_before out_now report_before report_now s)
+    IfSome files (λ all. (input : List ℕ) → ¬ Rose sb sn → ¬ Rose ob on → ¬ Rose rb rn → s ≢ status.Memory → IsAnswered (answer_for all input) out_before out_now report_before report_now s)
 exactly answer_for None obe on' rbe rn' e s sb sn ob on rb rn run told store output report = tt
-exactly answer_for (Some all) obe on' rbe rn' e s sb sn ob on rb rn run told store output report = λ no_store no_output no_report no_memory.
-    whole_answer (answer_for all) obe on' rbe rn' s (answers (answer_for all) obe on' rbe rn' e s run told)
+exactly answer_for (Some all) obe on' rbe rn' e s sb sn ob on rb rn run told store output report = λ input no_store no_output no_report no_memory.
+    whole_answer (answer_for all input) obe on' rbe rn' s (answers (answer_for all input) obe on' rbe rn' e s (run input) told)
     (λ is. no_store (store.rises (told_store_fault rbe rn' e s told is)))
     (told_no_input_fault rbe rn' e s told)
     (λ is. no_output (output.rises (told_output_fault rbe rn' e s told is)))
@@ -221,7 +242,10 @@ whole_store_fault before now ending.Ended is told = absurd cc
 whole_store_fault before now (ending.Stopped at) is told = absurd cc
 whole_store_fault before now ending.Usage is told = absurd cc
 whole_store_fault before now (ending.Missing name) is told = absurd cc
-whole_store_fault before now (ending.Refused name) is told = absurd cc
+whole_store_fault before now ending.LinesSpent is told = absurd cc
+whole_store_fault before now (ending.Refused name refusal) is told = absurd cc
+whole_store_fault before now (ending.FileTooLarge name size) is told = absurd cc
+whole_store_fault before now (ending.UnitTooLarge unit size limit) is told = absurd cc
 
 pub store_fault_is_told : (before now : Option (List ℕ)) (e : Ending) (s : Status) → IsTold e before now s → s ≡ status.StoreFault → TookAll before now (report_of ending.StoreFault)
 store_fault_is_told before now e _ (Whole told) is = whole_store_fault before now e is told
@@ -237,7 +261,10 @@ tells_store_fault ending.Ended is = absurd cc
 tells_store_fault (ending.Stopped at) is = absurd cc
 tells_store_fault ending.Usage is = absurd cc
 tells_store_fault (ending.Missing name) is = absurd cc
-tells_store_fault (ending.Refused name) is = absurd cc
+tells_store_fault ending.LinesSpent is = absurd cc
+tells_store_fault (ending.Refused name refusal) is = absurd cc
+tells_store_fault (ending.FileTooLarge name size) is = absurd cc
+tells_store_fault (ending.UnitTooLarge unit size limit) is = absurd cc
 
 pub store_fault_is_rose :
     (before now : Option (List ℕ)) (e : Ending) (s : Status) (count_before count_now : ℕ) → IsTold e before now s →
@@ -255,7 +282,10 @@ whole_output_fault before now ending.Ended is told = absurd cc
 whole_output_fault before now (ending.Stopped at) is told = absurd cc
 whole_output_fault before now ending.Usage is told = absurd cc
 whole_output_fault before now (ending.Missing name) is told = absurd cc
-whole_output_fault before now (ending.Refused name) is told = absurd cc
+whole_output_fault before now ending.LinesSpent is told = absurd cc
+whole_output_fault before now (ending.Refused name refusal) is told = absurd cc
+whole_output_fault before now (ending.FileTooLarge name size) is told = absurd cc
+whole_output_fault before now (ending.UnitTooLarge unit size limit) is told = absurd cc
 
 pub output_fault_is_told : (before now : Option (List ℕ)) (e : Ending) (s : Status) → IsTold e before now s → s ≡ status.OutputFault → TookAll before now (report_of ending.OutputFault)
 output_fault_is_told before now e _ (Whole told) is = whole_output_fault before now e is told
@@ -271,7 +301,10 @@ tells_output_fault ending.Ended is = absurd cc
 tells_output_fault (ending.Stopped at) is = absurd cc
 tells_output_fault ending.Usage is = absurd cc
 tells_output_fault (ending.Missing name) is = absurd cc
-tells_output_fault (ending.Refused name) is = absurd cc
+tells_output_fault ending.LinesSpent is = absurd cc
+tells_output_fault (ending.Refused name refusal) is = absurd cc
+tells_output_fault (ending.FileTooLarge name size) is = absurd cc
+tells_output_fault (ending.UnitTooLarge unit size limit) is = absurd cc
 
 pub output_fault_is_rose :
     (before now : Option (List ℕ)) (e : Ending) (s : Status) (count_before count_now : ℕ) → IsTold e before now s →
@@ -289,7 +322,10 @@ built_status ending.Ended = refl
 built_status (ending.Stopped at) = refl
 built_status ending.Usage = refl
 built_status (ending.Missing name) = refl
-built_status (ending.Refused name) = refl
+built_status ending.LinesSpent = refl
+built_status (ending.Refused name refusal) = refl
+built_status (ending.FileTooLarge name size) = refl
+built_status (ending.UnitTooLarge unit size limit) = refl
 
 pub told_built : (before now : Option (List ℕ)) (e : Ending) (s : Status) → IsTold e before now s → IsTrue (can_be s)
 told_built before now e _ (Whole told) = built_status e

@@ -1,10 +1,7 @@
-pub mod AnswerLaws
 pub mod Headlines
 pub mod Reading
-pub mod Runs
-pub mod Steps
 pub mod Taking
-pub mod Values
-pub mod Behind
-pub mod Sums
-pub mod Lines
+pub mod Running
+pub mod Wording
+pub mod AnswerLaws
+pub mod Endings

@@ -1,8 +1,8 @@
 -- What the top call promises.
-use Rattle.std.specs.Prelude.{◌≡◌, ℕ, ◌==◌, ◌||◌, ◌⊎◌, Bool, true, false, MatchBool, List, Option}
+use Rattle.std.specs.Prelude.{◌≡◌, ℕ, ◌==◌, ◌||◌, ◌⊎◌, Bool, true, false, MatchBool, List, ◌++◌, Option}
 use Rattle.bas_drive.specs.Answer.{command_of, CanEnd}
-use Rattle.bas_drive.specs.Took.{TookAll, TookPrefix}
-use Rattle.bas_drive.specs.Meaning.{Outcome}
+use Rattle.bas_vm.specs.Took.{TookAll, TookPrefix}
+use Rattle.bas_drive.specs.Ending.{Outcome}
 use Rattle.bas_drive.specs.Report.{status_of, report_of, code_of}
 use Rattle.bas_drive.specs.declared.ending.Ending.{Ending}
 use Rattle.bas_drive.specs.declared.ending.Ending.TheVariants as ends
@@ -34,14 +34,14 @@ can_be Usage = true
 can_be SourceRefused = true
 can_be LinkRefused = false
 can_be ImageRefused = false
-can_be LinesSpent = false
+can_be LinesSpent = true
 can_be StoreFault = true
 can_be InputFault = false
 can_be OutputFault = true
 can_be Memory = true
 can_be FileMissing = true
 can_be ReportFault = true
-can_be TooLarge = false
+can_be TooLarge = true
 
 -- the report failed
 abbrev pub is_report_fault : Status → Bool
@@ -66,11 +66,12 @@ pub data IsTold (ending : Ending) (before now : Option (List ℕ)) : Status → 
   CutByFault : TookPrefix before now (report_of ending) → IsTold ending before now ReportFault
   CutByMemory : TookPrefix before now (report_of ending) → IsTold ending before now Memory
 
--- the whole answer was given: its status, all of its output, and its report line
+-- the whole answer was given: its status, all of its output, and its report: what the run itself
+-- reports, and the line of its ending
 pub record IsAnswered (answer : Outcome) (out_before out_now report_before report_now : Option (List ℕ)) (status : Status) : Type 0 where
   pub status_is : status ≡ status_of answer.ending
   pub output : TookAll out_before out_now answer.output
-  pub report : TookAll report_before report_now (report_of answer.ending)
+  pub report : TookAll report_before report_now (answer.report ++ report_of answer.ending)
 
 -- the whole answer was given, or the command gave up with some of the output taken, from the front
 abbrev pub AnswersOrGivesUp : Outcome → Option (List ℕ) → Option (List ℕ) → Option (List ℕ) → Option (List ℕ) → Status → Type 0

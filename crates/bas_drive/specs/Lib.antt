@@ -1,10 +1,4 @@
-pub mod Bytes
-pub mod Form
-pub mod Rest
-pub mod Examples
-pub mod Meaning
-pub mod Report
-pub mod Run
-pub mod Took
 pub mod Answer
+pub mod Ending
+pub mod Report
 pub mod Headline

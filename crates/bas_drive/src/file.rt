@@ -38,6 +38,7 @@ pub fn read_file<S: Store>(
 ) -> Result<Vec<u8>, StoreFail>
     requires short { length name ≤ S.longest store.old }
     requires size { IfSome (S.files store.old) (λ files. size_of files name ≡ Some size) }
+    ensures within { IfOk result (λ bytes. length bytes.items ≤ size) }
     ensures bytes { IfOk result (λ bytes. IfSome (S.files store.old) (λ files. bytes.items ≡ bytes_at files name)) }
     ensures unchanged { S.files store.new ≡ S.files store.old }
     ensures counted { CountMoves (store_failed result) (S.faults store.old) (S.faults store.new) }

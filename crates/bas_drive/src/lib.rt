@@ -8,15 +8,11 @@
 mod ending;
 mod file;
 mod laws;
-mod program;
-mod reader;
 mod report;
 mod run;
 mod status;
-mod step;
 mod top;
 mod words;
-mod write;
 
 pub use status::Status;
 pub use top::basic_words;

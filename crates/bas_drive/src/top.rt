@@ -1,24 +1,28 @@
-ghost use Rattle.std.specs.Prelude.{◌≡◌, ◌≢◌, ◌≤◌, ◌<◌, ◌↔◌, ◌⊎◌, false, length, map, string_bytes, IfOk, IfSome, IsTrue, Some, None};
+ghost use Rattle.std.specs.Prelude.{◌≡◌, ℕ, List, ◌≢◌, ◌≤◌, ◌<◌, ◌↔◌, ◌⊎◌, false, length, map, string_bytes, IfOk, IfSome, IsTrue, Some, None};
 ghost use Rattle.std.specs.FinMap.{get};
 ghost use Rattle.bas_world.specs.Count.{CountMoves, Rose};
 ghost use Rattle.bas_world.specs.Files.{size_of};
-ghost use Rattle.bas_drive.specs.Form.{program_of};
-ghost use Rattle.bas_drive.specs.Answer.{command_of, command_answer, name_of, program_answer, file_answer, answer_of, FileEnding, CanEnd};
-ghost use Rattle.bas_drive.specs.Took.{TookAll};
+ghost use Rattle.bas_accept.specs.Accepted.{accepted_of};
+ghost use Rattle.bas_vm.specs.Took.{TookAll};
+ghost use Rattle.bas_drive.specs.Answer.{command_of, command_answer, name_of, source_answer, file_answer, answer_of, FileEnding, CanEnd};
 ghost use Rattle.bas_drive.specs.Report.{report_of};
 ghost use Rattle.bas_drive.specs.Headline.{IsAnswered, AnswersOrGivesUp, can_be, tells_fault, IsTold, IsIdle, TookReportPrefix, TookLineOf};
-ghost use Rattle.bas_drive.specs.Run.{RunOf, is_output_fault, is_store_fault, store_ending};
+ghost use Rattle.bas_drive.specs.Ending.{RunOf, is_output_fault, is_store_fault, store_ending, refused_ending};
 
 use crate::ending::Ending;
 use crate::file::read_file;
-use crate::reader::{self, SOURCE_BYTES};
 use crate::report::write_report;
-use crate::run::run;
+use crate::run::run_units;
 use crate::status::Status;
 use crate::words::{Command, command_of};
+use bas_accept::{Refusal, accepted};
 use bas_base::FileName;
+use bas_block::SourceFault;
 use bas_world::{Sink, Source, Store, StoreFail};
 use std::alloc::Global;
+
+/// The most bytes of a source file.
+pub const SOURCE_BYTES: usize = 1_048_576;
 
 // The ending of a command whose store failed.
 fn store_ending(fail: StoreFail) -> Ending
@@ -30,61 +34,84 @@ fn store_ending(fail: StoreFail) -> Ending
     }
 }
 
+// The ending of a command whose file is refused.
+fn refused(name: FileName, refusal: Refusal) -> Ending
+    ensures { result ≡ refused_ending name refusal }
+{
+    match refusal {
+        Refusal::Source(SourceFault::Memory) => Ending::Memory,
+        _ => Ending::Refused(name, refusal),
+    }
+}
+
 // Runs the program that the bytes of a file are, or refuses them.
-fn run_source<O: Sink>(alloc: Global, name: FileName, bytes: &[u8], out: &mut O) -> Ending
-    ensures does { RunOf (program_answer name (program_of bytes.now)) (O.taken out.old) (O.taken out.new) result }
+fn run_source<O: Sink>(
+    alloc: Global,
+    name: FileName,
+    bytes: &[u8],
+    lines: u64,
+    out: &mut O,
+) -> Ending
+    ensures does { (input : List ℕ) → RunOf (source_answer name lines input (accepted_of bytes.now)) (O.taken out.old) (O.taken out.new) result }
     ensures counted { CountMoves (is_output_fault result) (O.faults out.old) (O.faults out.new) }
     ensures store { is_store_fault result ≡ false }
-    ensures ends { FileEnding name result }
 {
-    match reader::program(alloc, bytes) {
-        Err(_) => Ending::Memory,
-        Ok(None) => Ending::Refused(name),
-        Ok(Some(program)) => run(alloc, program.items(), out),
+    match accepted(alloc, bytes) {
+        Ok(units) => run_units(alloc, name, units.as_slice(), lines, out),
+        Err(refusal) => refused(name, refusal),
     }
 }
 
 // Reads a file of that size, and runs it.
+#[tactic(auto, using(crate::proofs::Endings::source_can_end, crate::proofs::Endings::large_can_end, crate::proofs::Endings::store_can_end))]
 fn run_sized<S: Store, O: Sink>(
     alloc: Global,
     name: FileName,
     size: u64,
+    lines: u64,
     store: &mut S,
     out: &mut O,
 ) -> Ending
     requires short { length name ≤ S.longest store.old }
     requires size { IfSome (S.files store.old) (λ files. size_of files name ≡ Some size) }
-    ensures does { IfSome (S.files store.old) (λ files.
-        RunOf (file_answer name (get files name)) (O.taken out.old) (O.taken out.new) result) }
+    ensures does { IfSome (S.files store.old) (λ files. (input : List ℕ) →
+        RunOf (file_answer name lines input (get files name)) (O.taken out.old) (O.taken out.new) result) }
     ensures output { CountMoves (is_output_fault result) (O.faults out.old) (O.faults out.new) }
     ensures store { CountMoves (is_store_fault result) (S.faults store.old) (S.faults store.new) }
     ensures unchanged { S.files store.new ≡ S.files store.old }
-    ensures ends { FileEnding name result }
+    ensures ends { FileEnding name lines result }
     ensures longest { S.longest store.new ≡ S.longest store.old }
 {
     if size > SOURCE_BYTES as u64 {
-        return Ending::Refused(name);
+        return Ending::FileTooLarge(name, size);
     }
     match read_file(alloc, store, name, size as usize) {
-        Ok(bytes) => run_source(alloc, name, bytes.as_slice(), out),
+        Ok(bytes) => run_source(alloc, name, bytes.as_slice(), lines, out),
         Err(fail) => store_ending(fail),
     }
 }
 
 // Runs the program in a file.
-fn go<S: Store, O: Sink>(alloc: Global, name: FileName, store: &mut S, out: &mut O) -> Ending
+#[tactic(auto, using(crate::proofs::Endings::missing_can_end, crate::proofs::Endings::store_can_end))]
+fn go<S: Store, O: Sink>(
+    alloc: Global,
+    name: FileName,
+    lines: u64,
+    store: &mut S,
+    out: &mut O,
+) -> Ending
     requires { length name ≤ S.longest store.old }
-    ensures does { IfSome (S.files store.old) (λ files.
-        RunOf (file_answer name (get files name)) (O.taken out.old) (O.taken out.new) result) }
+    ensures does { IfSome (S.files store.old) (λ files. (input : List ℕ) →
+        RunOf (file_answer name lines input (get files name)) (O.taken out.old) (O.taken out.new) result) }
     ensures output { CountMoves (is_output_fault result) (O.faults out.old) (O.faults out.new) }
     ensures store { CountMoves (is_store_fault result) (S.faults store.old) (S.faults store.new) }
     ensures unchanged { S.files store.new ≡ S.files store.old }
-    ensures ends { FileEnding name result }
+    ensures ends { FileEnding name lines result }
     ensures longest { S.longest store.new ≡ S.longest store.old }
 {
     match store.size(name) {
         Ok(None) => Ending::Missing(name),
-        Ok(Some(size)) => run_sized(alloc, name, size, store, out),
+        Ok(Some(size)) => run_sized(alloc, name, size, lines, store, out),
         Err(fail) => store_ending(fail),
     }
 }
@@ -97,8 +124,8 @@ fn run_command<S: Store, O: Sink>(
     out: &mut O,
 ) -> Ending
     requires { length (name_of command) ≤ S.longest store.old }
-    ensures does { IfSome (S.files store.old) (λ files.
-        RunOf (command_answer (Some command) files) (O.taken out.old) (O.taken out.new) result) }
+    ensures does { IfSome (S.files store.old) (λ files. (input : List ℕ) →
+        RunOf (command_answer (Some command) files input) (O.taken out.old) (O.taken out.new) result) }
     ensures output { CountMoves (is_output_fault result) (O.faults out.old) (O.faults out.new) }
     ensures store { CountMoves (is_store_fault result) (S.faults store.old) (S.faults store.new) }
     ensures unchanged { S.files store.new ≡ S.files store.old }
@@ -106,15 +133,15 @@ fn run_command<S: Store, O: Sink>(
     ensures longest { S.longest store.new ≡ S.longest store.old }
 {
     match command {
-        Command::Go(name) => go(alloc, name, store, out),
+        Command::Go(name, lines) => go(alloc, name, lines, store, out),
     }
 }
 
 // Does what the words ask, and leaves the report to be written.
 fn perform<S: Store, O: Sink>(alloc: Global, words: &[String], store: &mut S, out: &mut O) -> Ending
     requires { S.longest store.old ≡ 68 }
-    ensures does { IfSome (S.files store.old) (λ files.
-        RunOf (answer_of (map string_bytes words.now) files) (O.taken out.old) (O.taken out.new) result) }
+    ensures does { IfSome (S.files store.old) (λ files. (input : List ℕ) →
+        RunOf (answer_of (map string_bytes words.now) files input) (O.taken out.old) (O.taken out.new) result) }
     ensures output { CountMoves (is_output_fault result) (O.faults out.old) (O.faults out.new) }
     ensures store { CountMoves (is_store_fault result) (S.faults store.old) (S.faults store.new) }
     ensures unchanged { S.files store.new ≡ S.files store.old }
@@ -130,9 +157,10 @@ fn perform<S: Store, O: Sink>(alloc: Global, words: &[String], store: &mut S, ou
     }
 }
 
-/// Does what the words of the command line ask: `go` and the name of a source file runs the
-/// program in that file. The answer's status is the program's exit status, and one line about
-/// it goes to the report where it has one.
+/// Does what the words of the command line ask: `go` and the name of a source file compiles the
+/// program in that file and runs it, for the number of lines behind `--lines` or else a thousand
+/// millions. The answer's status is the program's exit status, and one line about it goes to the
+/// report where it has one.
 pub fn basic_words<S: Store, I: Source, O: Sink, E: Sink>(
     alloc: Global,
     words: &[String],
@@ -144,18 +172,18 @@ pub fn basic_words<S: Store, I: Source, O: Sink, E: Sink>(
     requires { S.longest store.old ≡ 68 }
 
     // Where the store tells its files, no count of faults rose and there was memory: the status,
-    // the output and the report are those of the answer to the words.
-    ensures exact { IfSome (S.files store.old) (λ files.
+    // the output and the report are those of the answer to the words, whatever the input.
+    ensures exact { IfSome (S.files store.old) (λ files. (input : List ℕ) →
         ¬ Rose (S.faults store.old) (S.faults store.new) →
         ¬ Rose (O.faults out.old) (O.faults out.new) →
         ¬ Rose (E.faults report.old) (E.faults report.new) →
         result ≢ Status.Memory →
-        IsAnswered (answer_of (map string_bytes words.now) files)
+        IsAnswered (answer_of (map string_bytes words.now) files input)
         (O.taken out.old) (O.taken out.new) (E.taken report.old) (E.taken report.new) result) }
 
     // Whatever failed: that answer, or a failure with the front of its output.
-    ensures answered { IfSome (S.files store.old) (λ files.
-        AnswersOrGivesUp (answer_of (map string_bytes words.now) files)
+    ensures answered { IfSome (S.files store.old) (λ files. (input : List ℕ) →
+        AnswersOrGivesUp (answer_of (map string_bytes words.now) files input)
         (O.taken out.old) (O.taken out.new) (E.taken report.old) (E.taken report.new) result) }
     ensures built_statuses { IsTrue (can_be result) }
 
@@ -186,8 +214,8 @@ pub fn basic_words<S: Store, I: Source, O: Sink, E: Sink>(
     ensures output_fault_told { result ≡ Status.OutputFault →
         TookAll (E.taken report.old) (E.taken report.new) (report_of Ending.OutputFault) }
     ensures one_report_line { TookReportPrefix (map string_bytes words.now) (E.taken report.old) (E.taken report.new) }
-    ensures line_of_answer { IfSome (S.files store.old) (λ files.
-        TookLineOf (answer_of (map string_bytes words.now) files)
+    ensures line_of_answer { IfSome (S.files store.old) (λ files. (input : List ℕ) →
+        TookLineOf (answer_of (map string_bytes words.now) files input)
         (E.taken report.old) (E.taken report.new)) }
 
     // What no command changes.

@@ -4,8 +4,10 @@
 //! and the output are those that the program means.
 #![tactic(auto)]
 
+mod law;
 mod program;
 #[cfg(test)]
 mod tests;
 
+pub use law::sound_program_is_not_lost;
 pub use program::execute;

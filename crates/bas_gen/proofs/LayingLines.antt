@@ -16,7 +16,7 @@ use Rattle.bas_carry.specs.Constructs.{is_last}
 use Rattle.bas_carry.specs.Codes.{expr_size, plain_size, single_size, sections_size, stmt_size}
 use Rattle.bas_carry.specs.Tables.{Labels, stmt_labels, sections_labels}
 use Rattle.bas_genexpr.specs.Counts.{counted}
-use Rattle.bas_gen.specs.Kinds.{is_other}
+use Rattle.bas_gen.specs.Kinds.{is_remark, is_other}
 use Rattle.bas_gen.specs.declared.layout.Layout.{Layout}
 use Rattle.bas_gen.specs.Layouts.{stmt_list, sections_list, own_size, own_list, own_labels, Laid, Reserved, Refilled}
 use Rattle.bas_gen.proofs.Laying.{headed, single_laid}
@@ -45,6 +45,12 @@ other_laid true (t.OfPart (t.Elseif c)) old from l close last b n xs labels e = 
 other_laid true (t.OfPart t.Else) old from l close last b n xs labels e = let bad : false ≡ true = e in absurd cc
 other_laid true (t.OfPart (t.Do loopc)) old from l close last b n xs labels e = let bad : false ≡ true = e in absurd cc
 other_laid true _ old from l close last b n xs labels e = single_laid old from 0 0 refl
+
+pub remark_laid : (going : Bool) (item : t.LineItem) (old : Layout) (from l : ℕ) (close : t.NumLine) (last : Bool) (b n : ℕ) (xs : List ℕ) (labels : ℕ → Labels) → is_remark item ≡ true → Laid old old from 0 (own_size going item close.item last b) (own_list going item n xs) (own_labels going l item close b labels from)
+remark_laid false item old from l close last b n xs labels e = single_laid old from 0 0 refl
+remark_laid true t.Nothing old from l close last b n xs labels e = single_laid old from 0 0 refl
+remark_laid true (t.Rem bytes) old from l close last b n xs labels e = single_laid old from 0 0 refl
+remark_laid true _ old from l close last b n xs labels e = let bad : false ≡ true = e in absurd cc
 
 pub nest_laid : (s : Stmt) (items sections : List Section) (end : NumLine) (old mid inner new : Layout) (from at size : ℕ) → s ≡ stmt_form.Nest items end → sections ≡ items → Reserved old mid at → Laid mid inner from size (sections_size (sections_tree sections) (line_tree end)) (sections_list (sections_tree sections)) (sections_labels (sections_tree sections) (line_tree end) from (from + sections_size (sections_tree sections) (line_tree end))) → Refilled inner new at size → Laid old new from size (stmt_size (stmt_tree s)) (stmt_list (stmt_tree s)) (stmt_labels (stmt_tree s) from)
 nest_laid s items sections end old mid inner new from at size es ei r l f =

@@ -21,6 +21,19 @@ use Rattle.bas_gen.specs.Emitting.{ahead, Emits, Took, Entered, EntersClosing, c
 one_longer : {A : Type 0} (a b : List A) (x : A) → b ≡ a ++ x ∷ [] → length b ≡ suc (length a)
 one_longer a b x e = let q = ap length e ∙ length-append a (x ∷ []) in omega arith
 
+pub mark_emits : (l : ℕ) (old o2 new : Output) (code1 : List Instr) (start end : ℕ) → start ≡ length old.code → code1 ≡ old.code ++ instr.Mark l ∷ [] → o2.code ≡ code1 → ahead o2 ≡ ahead old → o2.lines.items ≡ old.lines.items → end ≡ length code1 → Entered o2 new l start end end → Emits old new [] 1 (λ from. instr.Mark l ∷ []) (λ from. entry l from (suc from) (suc from) ∷ [])
+mark_emits l old o2 new code1 start end es e1 ec ea el ee en = λ rest q r.
+    let len : end ≡ suc (length old.code) = ee ∙ one_longer old.code code1 (instr.Mark l) e1 in
+    record {
+      sizes = en.sizes ∙ ea ∙ q;
+      code = en.code ∙ ec ∙ e1;
+      lines =
+          en.lines (omega arith) (omega arith) (omega arith)
+          ∙ ap (λ x. x ++ entry l start end end ∷ []) el
+          ∙ ap (λ x. old.lines.items ++ entry l x end end ∷ []) es
+          ∙ ap (λ x. old.lines.items ++ entry l (length old.code) x x ∷ []) len;
+    }
+
 module _ (order : List Variable) (addr : outcome.Target → ℕ) (around : Around) where
   pub alone_emits : (l : ℕ) (p : t.Plain) (old o2 new : Output) (code1 code2 : List Instr) (start end : ℕ) → start ≡ length old.code → code1 ≡ old.code ++ instr.Mark l ∷ [] → code2 ≡ code1 ++ plain_code order addr around p → o2.code ≡ code2 → ahead o2 ≡ ahead old → o2.lines.items ≡ old.lines.items → end ≡ length code2 → Entered o2 new l start end end → Emits old new [] (1 + plain_size p) (λ from. instr.Mark l ∷ plain_code order addr around p) (λ from. entry l from (from + (1 + plain_size p)) (from + (1 + plain_size p)) ∷ [])
   alone_emits l p old o2 new code1 code2 start end es e1 e2 ec ea el ee en = λ rest q r.

@@ -16,20 +16,23 @@ use Rattle.bas_carry.specs.Codes.{cond_size, loopc_size, closing_size, part_end_
 use Rattle.bas_carry.specs.Tables.{entry, section_rows, do_section_rows, sections_rows, stmt_rows, block_rows}
 use Rattle.bas_carry.proofs.Lengths.{unless_length, loopc_length, closing_length, stmt_length, block_length}
 use Rattle.bas_genexpr.specs.Counts.{counted}
-use Rattle.bas_gen.specs.Kinds.{is_other}
+use Rattle.bas_gen.specs.Kinds.{is_remark, is_other}
 use Rattle.bas_gen.specs.declared.output.Output.{Output}
 use Rattle.bas_gen.specs.Layouts.{stmt_list, sections_list, block_list, goes_on, if_going, own_size, own_list}
-use Rattle.bas_gen.specs.Emitting.{Emits, is_alone, part_end_of, test_code, own_code, own_rows}
+use Rattle.bas_gen.specs.Emitting.{Emits, part_end_of, test_code, own_code, own_rows}
 use Rattle.bas_gen.proofs.Laying.{size_split, list_split}
 use Rattle.bas_gen.proofs.Making.{Making, making_next}
 
-pub other_not_alone : (item : t.LineItem) → is_other item ≡ true → is_alone item ≡ false
-other_not_alone (t.OfSimple (t.Alone plain)) e = let bad : false ≡ true = e in absurd cc
-other_not_alone _ e = refl
+pub other_single : (item : t.LineItem) (order : List Variable) (addr : outcome.Target → ℕ) (around : Around) (l : ℕ) (old : Output) → is_other item ≡ true → Emits old old [] (stmt_size (t.Single (record { line = l; item = item }))) (λ from. stmt_code order addr around (t.Single (record { line = l; item = item })) from) (λ from. stmt_rows (t.Single (record { line = l; item = item })) from)
+other_single t.Nothing order addr around l old e = let bad : false ≡ true = e in absurd cc
+other_single (t.Rem bytes) order addr around l old e = let bad : false ≡ true = e in absurd cc
+other_single (t.OfSimple (t.Alone plain)) order addr around l old e = let bad : false ≡ true = e in absurd cc
+other_single _ order addr around l old e = λ rest q r. record { sizes = q; code = sym (append-nil old.code); lines = sym (append-nil old.lines.items) }
 
-pub not_alone_emits : (item : t.LineItem) (order : List Variable) (addr : outcome.Target → ℕ) (around : Around) (l : ℕ) (old : Output) → is_alone item ≡ false → Emits old old (stmt_list (t.Single (record { line = l; item = item }))) (stmt_size (t.Single (record { line = l; item = item }))) (λ from. stmt_code order addr around (t.Single (record { line = l; item = item })) from) (λ from. stmt_rows (t.Single (record { line = l; item = item })) from)
-not_alone_emits (t.OfSimple (t.Alone plain)) order addr around l old e = let bad : true ≡ false = e in absurd cc
-not_alone_emits _ order addr around l old e = λ rest q r. record { sizes = q; code = sym (append-nil old.code); lines = sym (append-nil old.lines.items) }
+pub remark_single : (item : t.LineItem) (order : List Variable) (addr : outcome.Target → ℕ) (around : Around) (l : ℕ) (old new : Output) → is_remark item ≡ true → Emits old new [] 1 (λ from. instr.Mark l ∷ []) (λ from. entry l from (suc from) (suc from) ∷ []) → Emits old new [] (stmt_size (t.Single (record { line = l; item = item }))) (λ from. stmt_code order addr around (t.Single (record { line = l; item = item })) from) (λ from. stmt_rows (t.Single (record { line = l; item = item })) from)
+remark_single t.Nothing order addr around l old new e h = h
+remark_single (t.Rem bytes) order addr around l old new e h = h
+remark_single _ order addr around l old new e h = let bad : false ≡ true = e in absurd cc
 
 pub nothing_emits : (old : Output) → Emits old old [] 0 (λ from. []) (λ from. [])
 nothing_emits old = λ rest q r. record { sizes = q; code = sym (append-nil old.code); lines = sym (append-nil old.lines.items) }
@@ -144,3 +147,9 @@ other_emits true (t.OfPart (t.Elseif c)) order addr around l close last size n f
 other_emits true (t.OfPart t.Else) order addr around l close last size n finish xs block rows old e = let bad : false ≡ true = e in absurd cc
 other_emits true (t.OfPart (t.Do loopc)) order addr around l close last size n finish xs block rows old e = let bad : false ≡ true = e in absurd cc
 other_emits true _ order addr around l close last size n finish xs block rows old e = nothing_emits old
+
+pub remark_emits : (going : Bool) (item : t.LineItem) (order : List Variable) (addr : outcome.Target → ℕ) (around : Around) (l : ℕ) (close : t.NumLine) (last : Bool) (size n finish : ℕ) (xs : List ℕ) (block : Around → ℕ → List Instr) (rows : ℕ → List LineEntry) (old : Output) → is_remark item ≡ true → Emits old old (own_list going item n xs) (own_size going item close.item last size) (λ from. own_code order addr going around l item close last size block from finish) (λ from. own_rows going l item close size rows from finish)
+remark_emits false item order addr around l close last size n finish xs block rows old e = nothing_emits old
+remark_emits true t.Nothing order addr around l close last size n finish xs block rows old e = nothing_emits old
+remark_emits true (t.Rem bytes) order addr around l close last size n finish xs block rows old e = nothing_emits old
+remark_emits true _ order addr around l close last size n finish xs block rows old e = let bad : false ≡ true = e in absurd cc

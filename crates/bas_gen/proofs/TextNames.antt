@@ -12,7 +12,7 @@ use Rattle.bas_ast.proofs.BlockTrees.{section_out, stmt_nest}
 use Rattle.bas_ast.proofs.ExpressionTrees.{target_out}
 use Rattle.bas_mean.specs.World.{OfName}
 use Rattle.bas_carry.specs.Slots.{in_targets, in_expr, in_cond, in_loopc, in_plain, in_line, in_stmt, in_sections, in_block}
-use Rattle.bas_gen.specs.Kinds.{is_other, is_other_plain, in_section, loop_cond}
+use Rattle.bas_gen.specs.Kinds.{is_remark, is_other, is_other_plain, in_section, loop_cond}
 
 pub other_has_none : (item : t.LineItem) → is_other item ≡ true → [] ≡ in_line item
 other_has_none (t.OfSimple (t.Alone plain)) e = let bad : false ≡ true = e in absurd cc
@@ -21,6 +21,11 @@ other_has_none (t.OfPart (t.Elseif c)) e = let bad : false ≡ true = e in absur
 other_has_none (t.OfPart (t.Do loopc)) e = let bad : false ≡ true = e in absurd cc
 other_has_none (t.OfPart (t.Loop loopc)) e = let bad : false ≡ true = e in absurd cc
 other_has_none _ e = refl
+
+pub remark_has_none : (item : t.LineItem) → is_remark item ≡ true → [] ≡ in_line item
+remark_has_none t.Nothing e = refl
+remark_has_none (t.Rem bytes) e = refl
+remark_has_none _ e = let bad : false ≡ true = e in absurd cc
 
 pub other_plain_has_none : (plain : t.Plain) → is_other_plain plain ≡ true → [] ≡ in_plain plain
 other_plain_has_none (t.Let targets e) h = let bad : false ≡ true = h in absurd cc

@@ -1,6 +1,6 @@
 -- What was appended to the code and the line table; and what one section adds to those of its construct.
 use Rattle.std.specs.Prelude.{◌≡◌, ℕ, suc, ◌+◌, ◌≤◌, Bool, true, false, List, [], ◌∷◌, ◌++◌, length, drop, Option, None}
-use Rattle.bas_ast.specs.Tree.{Cond, Alone, If, Elseif, Else, Do, Loop, LineItem, OfSimple, OfPart, NumLine}
+use Rattle.bas_ast.specs.Tree.{Cond, If, Elseif, Else, Do, Loop, LineItem, OfPart, NumLine}
 use Rattle.bas_mean.specs.World.{Variable}
 use Rattle.bas_mean.specs.Outcome as outcome
 use Rattle.bas_mean.specs.Place.{Around}
@@ -55,11 +55,6 @@ EntersClosing old new line item from finish =
 -- inside a loop, or in none
 abbrev pub around_of : Option ℕ → Around
 around_of do_line = record { do_line = do_line; for_line = None }
-
--- a line that stands alone
-abbrev pub is_alone : LineItem → Bool
-is_alone (OfSimple (Alone plain)) = true
-is_alone _ = false
 
 -- the jump behind a part of a block IF
 abbrev pub part_end_of : (final : Bool) → (finish : ℕ) → List Instr

@@ -13,8 +13,16 @@ use Rattle.bas_gen.specs.declared.line.LineKind.TheVariants as kind
 use Rattle.bas_gen.specs.declared.line.PlainKind.{PlainKind}
 use Rattle.bas_gen.specs.declared.line.PlainKind.TheVariants as plain_kind
 
+-- a remark or an empty line
+abbrev pub is_remark : t.LineItem → Bool
+is_remark t.Nothing = true
+is_remark (t.Rem bytes) = true
+is_remark _ = false
+
 -- a line that the generator makes nothing of
 abbrev pub is_other : t.LineItem → Bool
+is_other t.Nothing = false
+is_other (t.Rem bytes) = false
 is_other (t.OfSimple (t.Alone plain)) = false
 is_other (t.OfPart (t.If c)) = false
 is_other (t.OfPart (t.Elseif c)) = false
@@ -33,6 +41,7 @@ Shows kind.Else item = item ≡ t.OfPart t.Else
 Shows (kind.Do loopc) item = item ≡ t.OfPart (t.Do (option_map loopc_tree loopc.now))
 Shows (kind.Loop loopc) item = item ≡ t.OfPart (t.Loop (option_map loopc_tree loopc.now))
 Shows kind.End item = item ≡ t.OfPart t.End
+Shows kind.Remark item = is_remark item ≡ true
 Shows kind.Other item = is_other item ≡ true
 
 -- a statement that the generator makes nothing of

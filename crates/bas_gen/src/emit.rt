@@ -1,6 +1,6 @@
 //! The code and the line table of blocks, in the order of the text.
 
-ghost use Rattle.std.specs.Prelude.{◌≡◌, suc, ◌+◌, ◌≤◌, [], ◌∷◌, ◌++◌, length, false, OnOk, MatchOption};
+ghost use Rattle.std.specs.Prelude.{◌≡◌, suc, ◌+◌, ◌≤◌, [], ◌∷◌, ◌++◌, length, OnOk};
 ghost use Rattle.bas_ast.specs.Tree as t;
 ghost use Rattle.std.specs.Option.{option_map};
 ghost use Rattle.bas_ast.specs.ConditionTree.{cond_tree};
@@ -54,7 +54,6 @@ ghost use Rattle.bas_gen.specs.Emitting.{
   Emits,
   EntersClosing,
   around_of,
-  is_alone,
   own_code,
   own_rows,
   part_end_of,
@@ -214,6 +213,7 @@ pub fn put_closing(
         LineKind::Elseif(_) => Ok(()),
         LineKind::Else => Ok(()),
         LineKind::Do(_) => Ok(()),
+        LineKind::Remark => Ok(()),
         LineKind::Other => Ok(()),
     }
 }
@@ -241,22 +241,6 @@ fn narrowed(at: usize) -> u16
     at.min(CODE_LIMIT as usize) as u16
 }
 
-// The statement of a line that stands alone.
-fn alone(item: &LineItem) -> Option<&Plain>
-    ensures { MatchOption result (is_alone (item_tree item.now) ≡ false) (λ plain. item_tree item.now ≡ t.OfSimple (t.Alone (plain_tree plain.now))) }
-{
-    match kind_of(item) {
-        LineKind::Alone(plain) => Some(plain),
-        LineKind::If(_) => None,
-        LineKind::Elseif(_) => None,
-        LineKind::Else => None,
-        LineKind::Do(_) => None,
-        LineKind::Loop(_) => None,
-        LineKind::End => None,
-        LineKind::Other => None,
-    }
-}
-
 fn emit_alone(
     output: &mut Output,
     slots: &Slots,
@@ -272,6 +256,39 @@ fn emit_alone(
     put_plain(&mut output.code, slots, targets, plain, do_line)?;
     let end = output.code.len();
     enter(output, line, start, end, end)
+}
+
+// The mark of a remark or an empty line.
+fn emit_remark(output: &mut Output, line: Line) -> Result<(), AllocError>
+    ensures { OnOk result (Emits output.old output.new [] 1 (λ from. instr.Mark line ∷ []) (λ from. entry line from (suc from) (suc from) ∷ [])) }
+{
+    let start = output.code.len();
+    output.code.push(Instr::Mark(line))?;
+    let end = output.code.len();
+    enter(output, line, start, end, end)
+}
+
+// A line that stands alone.
+fn emit_single(
+    output: &mut Output,
+    slots: &Slots,
+    targets: &Targets,
+    line: &NumLine,
+    do_line: Option<u32>,
+) -> Result<(), AllocError>
+    ensures { let x = t.Single (line_tree line.now) in OnOk result (Emits output.old output.new [] (stmt_size x) (λ from. stmt_code (variables slots.now) (address_at targets.now) (around_of do_line) x from) (λ from. stmt_rows x from)) }
+{
+    match kind_of(&line.item) {
+        LineKind::Alone(plain) => emit_alone(output, slots, targets, line.line, plain, do_line),
+        LineKind::Remark => emit_remark(output, line.line),
+        LineKind::If(_) => Ok(()),
+        LineKind::Elseif(_) => Ok(()),
+        LineKind::Else => Ok(()),
+        LineKind::Do(_) => Ok(()),
+        LineKind::Loop(_) => Ok(()),
+        LineKind::End => Ok(()),
+        LineKind::Other => Ok(()),
+    }
 }
 
 /// The row of a line that closes a block.
@@ -301,6 +318,7 @@ pub fn enter_closing(
         LineKind::Elseif(_) => Ok(()),
         LineKind::Else => Ok(()),
         LineKind::Do(_) => Ok(()),
+        LineKind::Remark => Ok(()),
         LineKind::Other => Ok(()),
     }
 }
@@ -367,10 +385,7 @@ fn emit_stmt(
     ensures { OnOk result (Emits output.old output.new (stmt_list (stmt_tree stmt.now)) (stmt_size (stmt_tree stmt.now)) (λ from. stmt_code (variables slots.now) (address_at targets.now) (around_of do_line) (stmt_tree stmt.now) from) (λ from. stmt_rows (stmt_tree stmt.now) from)) }
 {
     match stmt {
-        Stmt::Single(line) => match alone(&line.item) {
-            Some(plain) => emit_alone(output, slots, targets, line.line, plain, do_line),
-            None => Ok(()),
-        },
+        Stmt::Single(line) => emit_single(output, slots, targets, line, do_line),
         Stmt::Nest { sections, end } => {
             emit_sections(
                 alloc,
@@ -453,6 +468,7 @@ fn emit_section(
         LineKind::Alone(_) => Ok(()),
         LineKind::Loop(_) => Ok(()),
         LineKind::End => Ok(()),
+        LineKind::Remark => Ok(()),
         LineKind::Other => Ok(()),
     }
 }

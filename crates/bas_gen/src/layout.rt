@@ -120,6 +120,7 @@ pub fn size_of_single(item: &LineItem) -> u32
 {
     match kind_of(item) {
         LineKind::Alone(plain) => joined(1, size_of_plain(plain)),
+        LineKind::Remark => 1,
         _ => 0,
     }
 }
@@ -331,6 +332,7 @@ fn lay_section(
         LineKind::Alone(_) => Ok(0),
         LineKind::Loop(_) => Ok(0),
         LineKind::End => Ok(0),
+        LineKind::Remark => Ok(0),
         LineKind::Other => Ok(0),
     }
 }

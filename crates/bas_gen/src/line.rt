@@ -18,6 +18,8 @@ pub enum LineKind<'a> {
     Do(&'a Option<Loopc>),
     Loop(&'a Option<Loopc>),
     End,
+    /// A remark or an empty line.
+    Remark,
     /// It makes nothing of the line.
     Other,
 }
@@ -41,6 +43,8 @@ pub fn kind_of(item: &LineItem) -> LineKind<'_>
             Part::End => LineKind::End,
             _ => LineKind::Other,
         },
+        LineItem::Rem(_) => LineKind::Remark,
+        LineItem::Nothing => LineKind::Remark,
         _ => LineKind::Other,
     }
 }

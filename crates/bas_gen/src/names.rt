@@ -92,6 +92,7 @@ fn number_line(slots: &mut Slots, item: &LineItem) -> Result<(), GenFault>
         LineKind::Loop(loopc) => number_loopc(slots, loopc),
         LineKind::Else => Ok(()),
         LineKind::End => Ok(()),
+        LineKind::Remark => Ok(()),
         LineKind::Other => Ok(()),
     }
 }

@@ -1,8 +1,8 @@
-//! The body of a small program, and of one with a jump.
+//! The body of a program with a loop and a jump, and of one with lines that do nothing.
 
 use crate::generate;
 use bas_ast::{Block, LineItem, NumLine, Part, Plain, Program, Section, Simple, Stmt};
-use bas_base::{Line, Name};
+use bas_base::{Line, Name, Seq};
 use bas_code::{Instr, JumpInstr, RunInstr};
 use sqlite_items::{Boxed, Items};
 use std::alloc::{AllocError, Global};
@@ -55,5 +55,44 @@ fn a_loop_is_left(rt: HostRuntime) -> Result<(), Fail> {
     assert!(rt; matches!(code.get(6), Some(Instr::Jump(JumpInstr::Jump(0)))));
     assert!(rt; matches!(code.get(8), Some(Instr::Run(RunInstr::End))));
     assert_eq!(rt; made.lines.items().len(), 5);
+    Ok(())
+}
+
+// 10 REM A, 20, 30 GOTO 20, 40 END
+#[test]
+fn remarks_are_marked(rt: HostRuntime) -> Result<(), Fail> {
+    let alloc = rt.alloc();
+    let ten = Line::of(10).ok_or("no line")?;
+    let twenty = Line::of(20).ok_or("no line")?;
+    let thirty = Line::of(30).ok_or("no line")?;
+    let forty = Line::of(40).ok_or("no line")?;
+    let remark = LineItem::Rem(Seq::of(vec![in alloc; b' ', b'A']?));
+    let mut stmts = Items::new(alloc);
+    stmts.push(Stmt::Single(NumLine {
+        line: ten,
+        item: remark,
+    }))?;
+    stmts.push(Stmt::Single(NumLine {
+        line: twenty,
+        item: LineItem::Nothing,
+    }))?;
+    stmts.push(plain_of(alloc, thirty, Plain::Goto(twenty))?)?;
+    let program = Program {
+        name: Name::of(b"MAIN").ok_or("no name")?,
+        head: None,
+        body: Block { stmts },
+        end: part_of(alloc, forty, Part::End)?,
+    };
+    let made = generate(alloc, &program).map_err(|_| "refused")?;
+    let code = made.code.items();
+    assert_eq!(rt; code.len(), 6);
+    assert!(rt; matches!(code.get(0), Some(Instr::Mark(_))));
+    assert!(rt; matches!(code.get(1), Some(Instr::Mark(_))));
+    assert!(rt; matches!(code.get(3), Some(Instr::Jump(JumpInstr::Jump(1)))));
+    let lines = made.lines.items();
+    assert_eq!(rt; lines.len(), 4);
+    let empty = lines.get(1).ok_or("no entry")?;
+    assert_eq!(rt; empty.line.number(), 20);
+    assert_eq!(rt; (empty.start, empty.end, empty.next), (1, 2, 2));
     Ok(())
 }

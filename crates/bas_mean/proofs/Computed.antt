@@ -9,7 +9,7 @@ use Rattle.bas_mean.specs.Place.{is_full}
 use Rattle.bas_mean.specs.Meaning.{mean, level}
 use Rattle.bas_mean.specs.Outcome.{Ended, Stopped, GoesOn}
 use Rattle.bas_mean.specs.Built.{are_built, is_numeric_name}
-use Rattle.bas_mean.specs.Programs.{counting_loop, jump_out, jump_to_loop, early_exit, zero_divisor, cut_short, greatest_number, terminal_with}
+use Rattle.bas_mean.specs.Programs.{counting_loop, jump_out, jump_to_loop, early_exit, zero_divisor, cut_short, greatest_number, remarked, terminal_with}
 
 pub counting_is_built : are_built counting_loop ≡ true
 unfolding counting_loop is_numeric_name
@@ -55,4 +55,18 @@ pub printed_greatest : mean greatest_number 9 [] ≡ Stopped (record { number = 
 unfolding mean level greatest_number order_of text_of last_digits digits whole_text fraction_text stripped low sum_of is_full
 printed_greatest = refl
 
+pub remarked_is_built : are_built remarked ≡ true
+unfolding remarked is_numeric_name
+remarked_is_built = refl
+
+pub remarked_two : mean remarked 2 [] ≡ GoesOn (record { left = 0; terminal = terminal_with [] })
+unfolding mean level remarked is_full
+remarked_two = refl
+
+pub remarked_four : mean remarked 4 [] ≡ Ended (record { left = 0; terminal = terminal_with (codes " 1 " ∷ []) })
+unfolding mean level remarked order_of text_of last_digits digits whole_text fraction_text stripped low sum_of is_full
+remarked_four = refl
+
 pub ruleset counting = (counting_is_built, counting_ten, counting_eleven, counting_twelve, counting_many)
+
+pub ruleset remarks_taken = (remarked_is_built, remarked_two, remarked_four)

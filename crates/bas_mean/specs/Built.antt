@@ -1,7 +1,7 @@
 -- Which programs have built constructs alone. Nothing is claimed of the others.
 use Rattle.std.specs.Prelude.{ℕ, Bool, true, false, not, ◌&&◌, ◌||◌, List, [], ◌∷◌, Option, Some, None, nat_eq, bytes_eq, codes}
 use Rattle.std.specs.List.{ends_with}
-use Rattle.bas_ast.specs.Tree.{TermSign, Add, Subtract, Join, Expr, Sum, Terms, NoTerms, MoreTerms, Term, Product, Factors, NoFactors, MoreFactors, Factor, Power, Primaries, NoPrimaries, MorePrimaries, Primary, Numeric, Group, Named, Args, NoArgs, MoreArgs, Cond, AnyOf, Conjs, NoConjs, MoreConjs, Conj, AllOf, Tests, NoTests, MoreTests, Test, Not, CondGroup, Compare, Target, Variable, NoExprs, Sep, Pitem, Printed, Plain, Let, Print, Goto, ExitDo, Alone, Loopc, While, Until, If, Elseif, Else, EndIf, Do, Loop, End, LineItem, OfSimple, OfPart, NumLine, Stmt, Single, Nest, Sections, NoSections, MoreSections, Block, NoStmts, MoreStmts, SourceUnit, ProgramUnit}
+use Rattle.bas_ast.specs.Tree.{TermSign, Add, Subtract, Join, Expr, Sum, Terms, NoTerms, MoreTerms, Term, Product, Factors, NoFactors, MoreFactors, Factor, Power, Primaries, NoPrimaries, MorePrimaries, Primary, Numeric, Group, Named, Args, NoArgs, MoreArgs, Cond, AnyOf, Conjs, NoConjs, MoreConjs, Conj, AllOf, Tests, NoTests, MoreTests, Test, Not, CondGroup, Compare, Target, Variable, NoExprs, Sep, Pitem, Printed, Plain, Let, Print, Goto, ExitDo, Alone, Loopc, While, Until, If, Elseif, Else, EndIf, Do, Loop, ProgramLine, End, LineItem, Nothing, Rem, OfSimple, OfPart, NumLine, Stmt, Single, Nest, Sections, NoSections, MoreSections, Block, NoStmts, MoreStmts, SourceUnit, ProgramUnit}
 
 -- the names of the supplied functions
 abbrev pub supplied_names : List (List ℕ)
@@ -121,8 +121,10 @@ abbrev pub is_end_if : LineItem → Bool
 is_end_if (OfPart EndIf) = true
 is_end_if _ = false
 
--- a line that stands alone
+-- a line that stands alone: a remark, an empty line, or a statement
 abbrev pub is_built_single : LineItem → Bool
+is_built_single Nothing = true
+is_built_single (Rem bytes) = true
 is_built_single (OfSimple (Alone plain)) = is_built_plain plain
 is_built_single _ = false
 
@@ -161,17 +163,22 @@ abbrev pub is_end : LineItem → Bool
 is_end (OfPart End) = true
 is_end _ = false
 
--- no line
-abbrev pub is_none_line : Option NumLine → Bool
-is_none_line None = true
-is_none_line (Some l) = false
+-- PROGRAM without formals
+abbrev pub is_built_program_line : LineItem → Bool
+is_built_program_line (OfPart (ProgramLine name [])) = true
+is_built_program_line _ = false
 
--- a program without a PROGRAM line
+-- the PROGRAM line, where it is written
+abbrev pub is_built_program_head : Option NumLine → Bool
+is_built_program_head None = true
+is_built_program_head (Some head) = is_built_program_line head.item
+
+-- a program
 abbrev pub is_built_unit : SourceUnit → Bool
-is_built_unit (ProgramUnit p) = is_none_line p.head && (is_built_block p.body && is_end p.close.item)
+is_built_unit (ProgramUnit p) = is_built_program_head p.head && (is_built_block p.body && is_end p.close.item)
 is_built_unit _ = false
 
--- one program without a PROGRAM line; its constructs are closed by their own lines
+-- one program; its constructs are closed by their own lines
 abbrev pub are_built : List SourceUnit → Bool
 are_built (u ∷ []) = is_built_unit u
 are_built _ = false

@@ -1,8 +1,8 @@
 -- The rows of the constructs: what a section does, and what a line does that closes a block.
 use Rattle.std.specs.Prelude.{ℕ, Bool, true, false, not, Option, Some, None}
-use Rattle.bas_ast.specs.Tree.{Cond, Loopc, While, Until, If, Elseif, Else, Do, Loop, End, LineItem, OfSimple, OfPart, NumLine, Simple, Stmt, NoStmts}
+use Rattle.bas_ast.specs.Tree.{Cond, Loopc, While, Until, If, Elseif, Else, Do, Loop, End, LineItem, Nothing, Rem, OfSimple, OfPart, NumLine, Simple, Stmt, NoStmts}
 use Rattle.bas_mean.specs.World.{World}
-use Rattle.bas_mean.specs.Outcome.{Evaluated, Gives, then_with, EndOf, Halt, Undefined, Outcome, Normal, Jumps, Ends, follow}
+use Rattle.bas_mean.specs.Outcome.{Evaluated, Gives, then_with, EndOf, Onward, Halt, Undefined, Outcome, Normal, Jumps, Ends, follow}
 use Rattle.bas_mean.specs.Place.{Around, Closing, Bare, ClosedBy, Region, Place, Here, here_at, Lower}
 use Rattle.bas_mean.specs.Condition.{holds}
 use Rattle.bas_mean.specs.Line.{line}
@@ -25,6 +25,10 @@ BlockMeaning = Around → Closing → World → Outcome
 -- a simple line
 abbrev pub simple_line : Lower → Place → Around → (l : ℕ) → Simple → Stmt → World → Outcome
 simple_line low p around l s whole w = line low p l (low.stmt p around whole) Normal (simple_words (here_at p around l) s) follow w
+
+-- a remark or an empty line takes a line, and does nothing
+abbrev pub remark_line : Lower → Place → Around → (l : ℕ) → Stmt → World → Outcome
+remark_line low p around l whole w = line low p l (low.stmt p around whole) Normal (Gives Onward) follow w
 
 -- whether WHILE or UNTIL lets a loop go on; without either it does
 abbrev pub goes_round : Here → Option Loopc → World → Evaluated Bool
@@ -85,5 +89,7 @@ abbrev pub single : Lower → Place → Around → NumLine → Stmt → World �
 single low p around head whole = item_of head.item
   where
     item_of : LineItem → World → Outcome
+    item_of Nothing w = remark_line low p around head.line whole w
+    item_of (Rem bytes) w = remark_line low p around head.line whole w
     item_of (OfSimple s) w = simple_line low p around head.line s whole w
     item_of _ w = not_built w

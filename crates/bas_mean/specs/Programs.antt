@@ -1,7 +1,7 @@
 -- Small programs, written as trees, for the worked examples.
 use Rattle.std.specs.Prelude.{ℕ, ◌-◌, ◌^◌, pos, true, List, [], ◌∷◌, ◌++◌, Option, Some, None, codes}
 use Rattle.bas_dec.specs.Number.{Number}
-use Rattle.bas_ast.specs.Tree.{Add, Divide, Rel, Less, Equal, Greater, Expr, Sum, NoTerms, MoreTerms, Product, NoFactors, MoreFactors, Factor, Power, NoPrimaries, Primary, Numeric, Named, NoArgs, Cond, AnyOf, NoConjs, MoreConjs, AllOf, NoTests, MoreTests, Test, Not, CondGroup, Compare, Variable, NoExprs, Printed, Plain, Let, Print, Goto, ExitDo, Alone, Loopc, While, Part, If, Elseif, Else, EndIf, Do, Loop, End, OfSimple, OfPart, NumLine, Stmt, Single, Nest, NoSections, MoreSections, Block, NoStmts, MoreStmts, SourceUnit, ProgramUnit}
+use Rattle.bas_ast.specs.Tree.{Add, Divide, Rel, Less, Equal, Greater, Expr, Sum, NoTerms, MoreTerms, Product, NoFactors, MoreFactors, Factor, Power, NoPrimaries, Primary, Numeric, Named, NoArgs, Cond, AnyOf, NoConjs, MoreConjs, AllOf, NoTests, MoreTests, Test, Not, CondGroup, Compare, Variable, NoExprs, Printed, Plain, Let, Print, Goto, ExitDo, Alone, Loopc, While, Part, If, Elseif, Else, EndIf, Do, Loop, ProgramLine, End, Nothing, Rem, OfSimple, OfPart, NumLine, Stmt, Single, Nest, NoSections, MoreSections, Block, NoStmts, MoreStmts, SourceUnit, ProgramUnit}
 use Rattle.bas_mean.specs.World.{Terminal}
 
 -- a whole number
@@ -147,6 +147,19 @@ cut_short = program_of
 -- 10 PRINT N, 20 PRINT N + 1, 30 END, with 38 nines in place of each N
 unfoldable pub greatest_number : List SourceUnit
 greatest_number = program_of (print_line 10 (expr_of (num (10 ^ 38 - 1))) ∷ print_line 20 (plus (num (10 ^ 38 - 1)) (num 1)) ∷ []) 30
+
+-- 10 PROGRAM P, 20 REM first, 30, 40 PRINT 1, 50 END
+unfoldable pub remarked : List SourceUnit
+remarked = ProgramUnit (record {
+  name = codes "P";
+  head = Some (part_line 10 (ProgramLine (codes "P") []));
+  body = block_of (
+      Single (record { line = 20; item = Rem (codes " first") })
+      ∷ Single (record { line = 30; item = Nothing })
+      ∷ print_line 40 (expr_of (num 1))
+      ∷ []);
+  close = part_line 50 End;
+}) ∷ []
 
 -- a terminal whose output took these lines, each with its end, and no input or report
 abbrev pub lines_taken : List (List ℕ) → List ℕ

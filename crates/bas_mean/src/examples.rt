@@ -10,6 +10,7 @@ ghost use Rattle.bas_mean.specs.Programs.{
   zero_divisor,
   cut_short,
   greatest_number,
+  remarked,
   terminal_with,
 };
 
@@ -59,4 +60,13 @@ pub fn condition_is_cut_short()
 #[tactic(auto, using(crate::proofs::Computed::printed_greatest))]
 pub fn greatest_number_is_printed()
     ensures { mean greatest_number 9 [] ≡ Stopped (record { number = 1002; line = 20; unit = codes "MAIN" }) (record { left = 7; terminal = terminal_with (codes " 99999999999999999999999999999999999999 " ∷ []) }) }
+{}
+
+/// `10 PROGRAM P`, `20 REM first`, `30`, `40 PRINT 1`, `50 END`: the remark and the empty line take a
+/// line each, the `PROGRAM` line takes none.
+#[tactic(auto, using(crate::proofs::Computed::remarks_taken))]
+pub fn remarks_take_lines()
+    ensures built { are_built remarked ≡ true }
+    ensures two { mean remarked 2 [] ≡ GoesOn (record { left = 0; terminal = terminal_with [] }) }
+    ensures four { mean remarked 4 [] ≡ Ended (record { left = 0; terminal = terminal_with (codes " 1 " ∷ []) }) }
 {}

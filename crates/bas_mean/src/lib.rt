@@ -9,5 +9,5 @@ mod examples;
 pub use examples::{
     condition_is_cut_short, division_stops_at_its_line, exit_leaves_the_loop,
     goto_leaves_two_blocks, goto_reaches_the_loop_line, greatest_number_is_printed,
-    loop_takes_twelve_lines,
+    loop_takes_twelve_lines, remarks_take_lines,
 };

@@ -2,7 +2,7 @@
 use Rattle.std.proofs.Common.{◌≡◌, ◌⊎◌, ℕ, zero, suc, ◌≤◌, List, [], ◌∷◌, Option, Some, None, Bool, true, false, refl, sym, ap, subst, ◌∙◌, arith, inl, inr, ⊎_elim}
 use Rattle.std.specs.Prelude.{nat_eq}
 use Rattle.std.proofs.lemmas.Bool.{eqb-true}
-use Rattle.bas_ast.specs.Tree.{Expr, Target as Place, Variable, NoExprs, MoreExprs, Sep, Pitem, Printed, Plain, Let, Print, Goto, ExitDo, Simple, Alone, Cond, Loopc, If, Elseif, Else, Do, Loop, End, LineItem, OfSimple, OfPart, NumLine, Stmt, Single, Nest, Sections, NoSections, MoreSections, Block, NoStmts, MoreStmts}
+use Rattle.bas_ast.specs.Tree.{Expr, Target as Place, Variable, NoExprs, MoreExprs, Sep, Pitem, Printed, Plain, Let, Print, Goto, ExitDo, Simple, Alone, Cond, Loopc, If, Elseif, Else, Do, Loop, End, LineItem, Nothing, Rem, OfSimple, OfPart, NumLine, Stmt, Single, Nest, Sections, NoSections, MoreSections, Block, NoStmts, MoreStmts}
 use Rattle.bas_mean.specs.Outcome.{Target, LineOf, EndOf, TurnOf}
 use Rattle.bas_mean.specs.Place.{Around, Closing, Bare, ClosedBy}
 use Rattle.bas_mean.specs.Block.{line_of, from_line, at_closing, or_at, first_or, landing, Hit, Past, Round, Elsewhere, hit, hit_if}
@@ -72,6 +72,8 @@ module _ (text : Text) where
   mark-span from l at = span-one text from (suc from) (instr.Mark l) refl at refl
 
   single-span : (st : Static) (l : ℕ) (item : LineItem) (from to : ℕ) → Safe st to → SingleAt text st (record { line = l; item = item }) from to → Span text from to
+  single-span st l Nothing from to s p = span-then text from (suc from) to (mark-span from l p.mark) (span-none text (suc from) to p.code.none)
+  single-span st l (Rem bytes) from to s p = span-then text from (suc from) to (mark-span from l p.mark) (span-none text (suc from) to p.code.none)
   single-span st l (OfSimple simple) from to s p = span-then text from (suc from) to (mark-span from l p.mark) (simple-span st simple (suc from) to s p.code)
   single-span st l _ from to s p = absurd p
 
@@ -83,6 +85,8 @@ module _ (text : Text) where
   begins-then a b c p q = ⊎_elim (λ m. inl m) (λ e. subst (λ k. Begins k c) (sym e) q) p
 
   single-begins : (st : Static) (l : ℕ) (item : LineItem) (from to : ℕ) → SingleAt text st (record { line = l; item = item }) from to → Begins from to
+  single-begins st l Nothing from to p = inl (mark-is from l p.mark)
+  single-begins st l (Rem bytes) from to p = inl (mark-is from l p.mark)
   single-begins st l (OfSimple simple) from to p = inl (mark-is from l p.mark)
   single-begins st l _ from to p = absurd p
 

@@ -148,9 +148,9 @@ module _ (proc : Proc) (first held new : Held) (pc : ℕ) (i : Instr) (before mi
         (ap (λ c. exec image here.steps c) (sym (prints image body input so_far.sent)) ∙ here.ends))
 
     silent-ends : (t : Turn) → proc.guards ≡ [] → IsSilent proc pc i held new (Ends t) → now ≡ mid → TurnOf image begun before now t
-    silent-ends Ended unguarded leads same = over Ended _ (leads image body input so_far.sent) refl same
-    silent-ends (Stopped x) unguarded leads same = over (Stopped x) _ (leads image body input so_far.sent) (refl, refl) same
-    silent-ends LinesSpent unguarded leads same = over LinesSpent _ (leads image body input so_far.sent) refl same
+    silent-ends Ended unguarded leads same = over Ended _ (leads image body input so_far.sent) (refl, refl) same
+    silent-ends (Stopped x) unguarded leads same = over (Stopped x) _ (leads image body input so_far.sent) (refl, refl, refl) same
+    silent-ends LinesSpent unguarded leads same = over LinesSpent _ (leads image body input so_far.sent) (refl, refl) same
     silent-ends Lost unguarded leads same = over Lost _ (leads image body input so_far.sent) tt same
     silent-ends Refused unguarded leads same = absurd (leads image body input so_far.sent)
     silent-ends OutputFault unguarded leads same = absurd (leads image body input so_far.sent)

@@ -16,11 +16,11 @@ use Rattle.bas_vm.specs.Steps.{state_at}
 use Rattle.bas_vm.specs.Fit.{is_fit_image}
 use Rattle.bas_vm.specs.Took.{TookAll, TookPrefix}
 
--- the end of a run, as a turn and the output tell it
+-- the end of a run, as a turn and the output tell it; the run itself reported nothing
 abbrev pub IsEnd : Turn → List ℕ → RunEnd → Type 0
-IsEnd Ended output (run.Ended seen) = seen.terminal.output ≡ output
-IsEnd (Stopped at) output (run.Stopped x seen) = (x ≡ exception_at at) × (seen.terminal.output ≡ output)
-IsEnd LinesSpent output (run.GoesOn seen) = seen.terminal.output ≡ output
+IsEnd Ended output (run.Ended seen) = (seen.terminal.output ≡ output) × (seen.terminal.report ≡ [])
+IsEnd (Stopped at) output (run.Stopped x seen) = (x ≡ exception_at at) × (seen.terminal.output ≡ output) × (seen.terminal.report ≡ [])
+IsEnd LinesSpent output (run.GoesOn seen) = (seen.terminal.output ≡ output) × (seen.terminal.report ≡ [])
 IsEnd Lost output run.Lost = Unit {0}
 IsEnd t output e = ⊥
 

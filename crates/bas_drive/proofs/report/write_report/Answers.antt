@@ -1,5 +1,5 @@
 use Rattle.std.proofs.Common.{◌∙◌, sym, subst}
-use Rattle.bas_drive.specs.Took.{TookAll, TookPrefix}
+use Rattle.bas_vm.specs.Took.{TookAll, TookPrefix}
 use Rattle.bas_drive.specs.Report.{report_of}
 use Rattle.bas_drive.specs.Headline.{IsTold}
 use Rattle.bas_drive.specs.Headline.IsTold.{Whole, CutByFault, CutByMemory}

@@ -5,19 +5,19 @@ use Rattle.bas_drive.proofs.top.basic_words.Goals as goal
 
 pub returns-clause-exact : goal.returns-clause-exact
 returns-clause-exact g c =
-    exactly (λ files. answer_of (map string_bytes c.args.words.now) files) (g.S.Store.files c.args.store.now) _ _ _ _ c.perform-ending.result c.write_report.result _ _ _ _ _ _
+    exactly (λ files input. answer_of (map string_bytes c.args.words.now) files input) (g.S.Store.files c.args.store.now) _ _ _ _ c.perform-ending.result c.write_report.result _ _ _ _ _ _
     c.perform-ending.ensures.does c.write_report.ensures.told c.perform-ending.ensures.store c.perform-ending.ensures.output c.write_report.ensures.counted
 
 pub returns-clause-answered : goal.returns-clause-answered
 returns-clause-answered g c =
-    answers_told (λ files. answer_of (map string_bytes c.args.words.now) files) (g.S.Store.files c.args.store.now) _ _ _ _ c.perform-ending.result c.write_report.result c.perform-ending.ensures.does c.write_report.ensures.told
+    answers_told (λ files input. answer_of (map string_bytes c.args.words.now) files input) (g.S.Store.files c.args.store.now) _ _ _ _ c.perform-ending.result c.write_report.result c.perform-ending.ensures.does c.write_report.ensures.told
 
 pub returns-clause-one_report_line : goal.returns-clause-one_report_line
 returns-clause-one_report_line g c = report_prefix (map string_bytes c.args.words.now) _ _ c.perform-ending.result c.write_report.result c.perform-ending.ensures.ends c.write_report.ensures.told
 
 pub returns-clause-line_of_answer : goal.returns-clause-line_of_answer
 returns-clause-line_of_answer g c =
-    line_of_answer (λ files. answer_of (map string_bytes c.args.words.now) files) (g.S.Store.files c.args.store.now) _ _ _ _ c.perform-ending.result c.write_report.result c.perform-ending.ensures.does c.write_report.ensures.told
+    line_of_answer (λ files input. answer_of (map string_bytes c.args.words.now) files input) (g.S.Store.files c.args.store.now) _ _ _ _ c.perform-ending.result c.write_report.result c.perform-ending.ensures.does c.write_report.ensures.told
 
 pub returns-clause-usage : goal.returns-clause-usage
 returns-clause-usage g c = told_usage (command_of (map string_bytes c.args.words.now)) _ _ c.perform-ending.result c.write_report.result c.perform-ending.ensures.ends c.write_report.ensures.told

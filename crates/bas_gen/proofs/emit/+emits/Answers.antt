@@ -19,7 +19,7 @@ use Rattle.bas_gen.specs.Layouts.{goes_on, if_going, sections_list, block_list}
 use Rattle.bas_gen.proofs.Laying.{none_going}
 use Rattle.bas_gen.proofs.LayingLines.{last_of}
 use Rattle.bas_gen.proofs.Making.{making_end}
-use Rattle.bas_gen.proofs.MakingSections.{stmts_made, sections_made, not_alone_emits, nothing_emits, other_emits, going_on}
+use Rattle.bas_gen.proofs.MakingSections.{stmts_made, sections_made, nothing_emits, remark_emits, other_emits, going_on}
 use Rattle.bas_gen.proofs.MakingLines.{listed_emits, test_emits, do_emits, nest_emits, closing_small}
 use Rattle.bas_gen.proofs.emit.+emits.Goals as goal
 
@@ -53,6 +53,9 @@ emit_section-returns-in-Loop t c = rw (section_out, c.in-Loop.ensures, going_on 
 
 pub emit_section-returns-in-End : goal.emit_section-returns-in-End
 emit_section-returns-in-End t c = rw (section_out, c.in-End.ensures, going_on c.args.spot.going c.if-not-spot.false) (λ h. nothing_emits c.args.output.now)
+
+pub emit_section-returns-in-Remark : goal.emit_section-returns-in-Remark
+emit_section-returns-in-Remark t c = rw section_out (λ h. remark_emits c.args.spot.going _ (variables c.args.slots.now) (address_at c.args.targets.now) (around_of c.args.spot.do_line) _ (line_tree c.args.end.now) c.args.spot.last _ _ c.args.spot.finish _ _ _ c.args.output.now c.in-Remark.ensures)
 
 pub emit_section-returns-in-Other : goal.emit_section-returns-in-Other
 emit_section-returns-in-Other t c = rw section_out (λ h. other_emits c.args.spot.going _ (variables c.args.slots.now) (address_at c.args.targets.now) (around_of c.args.spot.do_line) _ (line_tree c.args.end.now) c.args.spot.last _ _ c.args.spot.finish _ _ _ c.args.output.now c.in-Other.ensures)
@@ -105,11 +108,8 @@ emit_sections-returns t c =
     (λ h. making_end c.next_size.new.output c.loop-section.output (sections_list all) (if_going going (sections_list left) []) (sections_size all close) (if_going going (sections_size left close) 0) (λ from. sections_code order addr around all close from finish) (λ from. if_going going (sections_code order addr around left close from finish) []) (λ from. sections_rows all close from finish) (λ from. if_going going (sections_rows left close from finish) [])
     (none_going going _ [] (ap sections_list none)) (none_going going _ [] (ap (λ x. sections_code order addr around x close (length c.loop-section.output.code) finish) none)) (none_going going _ [] (ap (λ x. sections_rows x close (length c.loop-section.output.code) finish) none)) (c.loop-section.invariant.state h))
 
-pub emit_stmt-returns-in-Some : goal.emit_stmt-returns-in-Some
-emit_stmt-returns-in-Some t c = rw (c.in-Single.is, stmt_single, c.in-Some.ensures) c.emit_alone.ensures
-
-pub emit_stmt-returns-in-None : goal.emit_stmt-returns-in-None
-emit_stmt-returns-in-None t c = rw (c.in-Single.is, stmt_single) (not_alone_emits _ (variables c.args.slots.now) (address_at c.args.targets.now) (around_of c.args.do_line) _ c.args.output.now c.in-None.ensures)
+pub emit_stmt-returns-in-Single : goal.emit_stmt-returns-in-Single
+emit_stmt-returns-in-Single t c = rw (c.in-Single.is, stmt_single) c.emit_single.ensures
 
 pub emit_stmt-returns-in-Nest : goal.emit_stmt-returns-in-Nest
 emit_stmt-returns-in-Nest t c = rw (c.in-Nest.is, stmt_nest, ← c.as_slice.ensures) c.emit_sections.ensures

@@ -9,7 +9,7 @@ use Rattle.bas_carry.specs.Tables.{block_labels, closing_labels}
 use Rattle.bas_genexpr.proofs.Pieces.{turn}
 use Rattle.bas_gen.specs.Layouts.{goes_on}
 use Rattle.bas_gen.proofs.Laying.{do_laid, stmts_turn, sections_turn, single_laid}
-use Rattle.bas_gen.proofs.LayingLines.{last_of, other_laid, nest_laid, line_laid}
+use Rattle.bas_gen.proofs.LayingLines.{last_of, remark_laid, other_laid, nest_laid, line_laid}
 use Rattle.bas_gen.proofs.layout.+lays.Goals as goal
 
 pub lay_block-returns : goal.lay_block-returns
@@ -35,6 +35,9 @@ lay_section-returns-in-Loop t c = rw (section_out, c.in-Loop.ensures, c.if-not-g
 
 pub lay_section-returns-in-End : goal.lay_section-returns-in-End
 lay_section-returns-in-End t c = rw (section_out, c.in-End.ensures, c.if-not-going.false) (single_laid c.args.layout.now c.args.from 0 0 refl)
+
+pub lay_section-returns-in-Remark : goal.lay_section-returns-in-Remark
+lay_section-returns-in-Remark t c = rw section_out (remark_laid c.args.going _ c.args.layout.now c.args.from _ (line_tree c.args.end.now) c.args.last _ _ _ _ c.in-Remark.ensures)
 
 pub lay_section-returns-in-Other : goal.lay_section-returns-in-Other
 lay_section-returns-in-Other t c = rw section_out (other_laid c.args.going _ c.args.layout.now c.args.from _ (line_tree c.args.end.now) c.args.last _ _ _ _ c.in-Other.ensures)

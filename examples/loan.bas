@@ -1,0 +1,19 @@
+10 PROGRAM LOAN
+20 REM A loan of 1000 at 1 per cent a month, paid back by 300 a month.
+30 REM It prints each payment, and then the sum of the interest.
+40 LET DEBT = 1000
+50 LET PAYMENT = 300
+60 DO
+70   LET CHARGE = DEBT / 100 / 1E16 * 1E16 ! in whole cents
+80   LET DEBT = DEBT + CHARGE
+90   LET CHARGES = CHARGES + CHARGE
+100  IF DEBT <= PAYMENT THEN
+110    PRINT DEBT
+120    EXIT DO
+130  ELSE
+140    PRINT PAYMENT
+150    LET DEBT = DEBT - PAYMENT
+160  END IF
+170 LOOP
+180 PRINT CHARGES
+190 END
