@@ -30,15 +30,15 @@ is_remark t.Nothing = true
 is_remark (t.Rem _) = true
 is_remark _ = false
 
--- the line at which the first section begins
-abbrev pub sections_first_line : t.Sections → Option ℕ
-sections_first_line t.NoSections = None
-sections_first_line (t.MoreSections head _ _) = Some head.line
+-- the line at which the first section begins, else the one that closes the construct
+abbrev pub first_of : t.Sections → (close : ℕ) → ℕ
+first_of t.NoSections close = close
+first_of (t.MoreSections head body rest) close = head.line
 
--- the first line of a statement
-abbrev pub stmt_first_line : t.Stmt → Option ℕ
-stmt_first_line (t.Single line) = Some line.line
-stmt_first_line (t.Nest sections _) = sections_first_line sections
+-- the line at which a statement begins
+abbrev pub line_of : t.Stmt → ℕ
+line_of (t.Single line) = line.line
+line_of (t.Nest sections close) = first_of sections close.line
 
 -- the name that an EXTERNAL line gives to its procedure
 abbrev pub procedure_name : t.LineItem → Option (List ℕ)

@@ -69,31 +69,30 @@ impl LineItem {
 }
 
 impl Stmt {
-    ghost use Rattle.bas_ast.specs.Accessors.{stmt_first_line};
+    ghost use Rattle.bas_ast.specs.Accessors.{line_of};
     ghost use Rattle.bas_ast.specs.BlockTree.{stmt_tree};
 
-    /// The first line of the statement, or `None` for a construct with no section.
-    #[tactic(auto, using(crate::proofs::BlockTrees::block_trees))]
-    pub fn first_line(&self) -> Option<Line>
-        ensures { result ≡ stmt_first_line (stmt_tree self.now) }
+    /// The line at which the statement begins: the line alone, the first line of a construct, or
+    /// the line that closes it where it has no section.
+    pub fn first_line(&self) -> Line
+        ensures { result ≡ line_of (stmt_tree self.now) }
     {
         match self {
-            Stmt::Single(line) => Some(line.line),
-            Stmt::Nest { sections, .. } => first_line_of(sections.as_slice()),
+            Stmt::Single(line) => line.line,
+            Stmt::Nest { sections, end } => first_line_of(sections.as_slice(), end),
         }
     }
 }
 
-ghost use Rattle.bas_ast.specs.Accessors.{sections_first_line};
+ghost use Rattle.bas_ast.specs.Accessors.{first_of};
 ghost use Rattle.bas_ast.specs.BlockTree.{sections_tree};
 
-// The first line of the first section.
-#[tactic(auto, using(crate::proofs::BlockTrees::section_out))]
-fn first_line_of(sections: &[Section]) -> Option<Line>
-    ensures { result ≡ sections_first_line (sections_tree sections.now) }
+// The first line of the first section, else the one that closes the construct.
+fn first_line_of(sections: &[Section], end: &NumLine) -> Line
+    ensures { result ≡ first_of (sections_tree sections.now) end.now.line }
 {
     match sections.first() {
-        Some(section) => Some(section.head.line),
-        None => None,
+        Some(section) => section.head.line,
+        None => end.line,
     }
 }

@@ -202,7 +202,7 @@ fn a_loop_begins_at_its_first_line(rt: HostRuntime) -> Result<(), Fail> {
         digits: true,
     };
     let stmt = loop_of(alloc, line, negations(alloc, numeral, 0)?)?;
-    assert_eq!(rt; stmt.first_line().map(Line::number), Some(30));
+    assert_eq!(rt; stmt.first_line().number(), 30);
     Ok(())
 }
 

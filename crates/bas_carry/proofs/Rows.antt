@@ -5,7 +5,8 @@ use Rattle.bas_ast.specs.Tree.{Cond, Loopc, Loop, End, LineItem, OfPart, NumLine
 use Rattle.bas_mean.specs.World.{World}
 use Rattle.bas_mean.specs.Outcome.{Gives, Target, LineOf, EndOf, TurnOf, Halt, Outcome, Normal, Jumps, Leaves, Away, Retries, Continues, PassesOn, Returns, Ends, follow}
 use Rattle.bas_mean.specs.Place.{Around, Closing, Bare, ClosedBy, Region, here_at, Lower}
-use Rattle.bas_mean.specs.Block.{line_of, first_or, from_line, at_closing, or_at, landing, jump_within, next_line, Hit, Past, Round, Elsewhere, hit_if, hit, loop_jump, loop_end}
+use Rattle.bas_ast.specs.Accessors.{line_of}
+use Rattle.bas_mean.specs.Block.{first_or, from_line, at_closing, or_at, landing, jump_within, next_line, Hit, Past, Round, Elsewhere, hit_if, hit, loop_jump, loop_end}
 use Rattle.bas_mean.specs.Condition.{holds}
 use Rattle.bas_mean.specs.Construct.{decided, BlockMeaning, goes_round, if_section, in_do, do_section, loop_line, end_line, closing_line}
 use Rattle.bas_code.specs.declared.instr.Instr.TheVariants as instr

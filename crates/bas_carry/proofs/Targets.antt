@@ -4,7 +4,7 @@ use Rattle.std.specs.Prelude.{nat_lt, if◌then◌else◌}
 use Rattle.std.proofs.lemmas.Bool.{eqb-true, eq-eqb, ltb-true}
 use Rattle.bas_ast.specs.Tree.{If, Elseif, Else, Do, Loop, End, LineItem, OfPart, NumLine, Stmt, Single, Nest, Sections, NoSections, MoreSections, Block, NoStmts, MoreStmts}
 use Rattle.bas_mean.specs.Outcome.{Target, LineOf, EndOf, TurnOf}
-use Rattle.bas_mean.specs.Block.{line_of}
+use Rattle.bas_ast.specs.Accessors.{line_of}
 use Rattle.bas_carry.specs.Constructs.{is_last}
 use Rattle.bas_carry.specs.Codes.{cond_size, loopc_size, part_end_size, sections_size, stmt_size, block_size}
 use Rattle.bas_carry.specs.Tables.{Labels, closing_labels, section_labels, stmt_labels, sections_labels, block_labels, same_target, address_in, stmt_numbers, sections_numbers, block_numbers, rise_above}

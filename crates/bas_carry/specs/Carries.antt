@@ -4,7 +4,7 @@ use Rattle.bas_ast.specs.Tree.{End, OfPart, NumLine, Stmt, Single, Nest, Section
 use Rattle.bas_mean.specs.World.{Variable}
 use Rattle.bas_mean.specs.Outcome.{Target, LineOf, RunEnd, Lost}
 use Rattle.bas_mean.specs.Place.{Closing}
-use Rattle.bas_mean.specs.Block.{line_of}
+use Rattle.bas_ast.specs.Accessors.{line_of}
 use Rattle.bas_mean.specs.Meaning.{outermost, program_region, first_program, mean}
 use Rattle.bas_code.specs.declared.instr.Place.{Place}
 use Rattle.bas_code.specs.declared.instr.Space.TheVariants.{Own}

@@ -3,7 +3,7 @@
 use Rattle.std.specs.Prelude.{◌≡◌, ℕ, suc, ◌+◌, Bool, true, false, ◌&&◌, List, [], ◌∷◌, ◌++◌, length, Option, Some, nat_eq, nat_lt, slice_get, if◌then◌else◌}
 use Rattle.bas_ast.specs.Tree.{Cond, Loopc, Alone, If, Elseif, Else, Do, Loop, End, LineItem, Nothing, Rem, OfSimple, OfPart, NumLine, Stmt, Single, Nest, Sections, NoSections, MoreSections, Block, NoStmts, MoreStmts, Program, SourceUnit}
 use Rattle.bas_mean.specs.Outcome.{Target, LineOf, EndOf, TurnOf}
-use Rattle.bas_mean.specs.Block.{line_of}
+use Rattle.bas_ast.specs.Accessors.{line_of}
 use Rattle.bas_mean.specs.Built.{is_built_block, is_end}
 use Rattle.bas_mean.specs.Jumps.{jumps_are_right}
 use Rattle.bas_code.specs.declared.body.LineEntry.{LineEntry}

@@ -1,18 +1,12 @@
 -- The first line of a part, and the first that is not built.
 use Rattle.std.proofs.Common.{◌≡◌, ℕ, Bool, true, false, List, [], ◌∷◌, Option, Some, None, sym, ap, ◌∙◌}
-use Rattle.std.specs.List.{slice_get}
 use Rattle.bas_ast.specs.BlockTree.{sections_tree, section_tree, stmt_tree, item_tree}
 use Rattle.bas_ast.specs.declared.block.NumLine.{NumLine}
 use Rattle.bas_ast.specs.declared.block.Section.{Section}
 use Rattle.bas_ast.specs.declared.block.Stmt.{Stmt}
 use Rattle.bas_ast.specs.declared.block.Stmt as stmt_form
 use Rattle.bas_ast.proofs.BlockTrees.{stmt_nest}
-use Rattle.bas_mean.specs.Block.{first_of}
 use Rattle.bas_check.specs.Unbuilt.{first_found, unless_built, are_closed, unbuilt_in_stmt, unbuilt_in_sections}
-
-pub first_is : (xs : List Section) (x : Section) (close : ℕ) → slice_get xs 0 ≡ Some x → first_of (sections_tree xs) close ≡ (section_tree x).0.line
-first_is [] x close e = let bad : None ≡ Some x = e in absurd cc
-first_is (y ∷ ys) x close e = let same : y ≡ x = cc in ap (λ z. (section_tree z).0.line) same
 
 -- an answer that is found first
 pub found_first : (a b : Option ℕ) (line : ℕ) → a ≡ Some line → Some line ≡ first_found a b

@@ -1,7 +1,7 @@
 -- The first line of a file that has a construct which is not built.
 use Rattle.std.specs.Prelude.{◌≡◌, ℕ, Bool, true, false, ◌&&◌, List, [], ◌∷◌, Option, Some, None}
 use Rattle.bas_ast.specs.Tree.{If, Elseif, Else, Do, LineItem, OfPart, NumLine, Stmt, Single, Nest, Sections, NoSections, MoreSections, Block, NoStmts, MoreStmts, Program, SourceUnit, ProgramUnit, ProcedureUnit, ModuleUnit}
-use Rattle.bas_mean.specs.Block.{line_of}
+use Rattle.bas_ast.specs.Accessors.{line_of}
 use Rattle.bas_mean.specs.Built.{is_built_cond, is_built_loopc, is_built_single, is_built_loop, is_end_if, is_end, is_built_program_line, are_built}
 
 -- a line that opens a section

@@ -9,7 +9,6 @@ ghost use Rattle.bas_ast.specs.BlockTree.{
   sections_tree,
   stmts_tree,
 };
-ghost use Rattle.bas_mean.specs.Block.{line_of, first_of};
 ghost use Rattle.bas_check.specs.Unbuilt as unbuilt;
 
 use crate::line::{is_built_close, is_built_head, is_built_line};
@@ -97,29 +96,11 @@ fn unbuilt_in_sections(sections: &[Section]) -> Option<Line>
     None
 }
 
-fn line_of_sections(sections: &[Section], end: &NumLine) -> Line
-    ensures { result ≡ first_of (sections_tree sections.now) end.now.line }
-{
-    match sections.first() {
-        Some(section) => section.head.line,
-        None => end.line,
-    }
-}
-
-fn line_of_stmt(stmt: &Stmt) -> Line
-    ensures { result ≡ line_of (stmt_tree stmt.now) }
-{
-    match stmt {
-        Stmt::Single(line) => line.line,
-        Stmt::Nest { sections, end } => line_of_sections(sections.as_slice(), end),
-    }
-}
-
 fn line_of_stmts(stmts: &[Stmt]) -> Option<Line>
     ensures { result ≡ unbuilt.line_of_block (stmts_tree stmts.now) }
 {
     match stmts.first() {
-        Some(stmt) => Some(line_of_stmt(stmt)),
+        Some(stmt) => Some(stmt.first_line()),
         None => None,
     }
 }

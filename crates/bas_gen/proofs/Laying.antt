@@ -4,7 +4,7 @@ use Rattle.std.specs.Prelude.{slice_set}
 use Rattle.std.proofs.Math.Seq.{set-append_seam}
 use Rattle.bas_ast.specs.Tree as t
 use Rattle.bas_mean.specs.Outcome.{EndOf, TurnOf, LineOf}
-use Rattle.bas_mean.specs.Block.{line_of}
+use Rattle.bas_ast.specs.Accessors.{line_of}
 use Rattle.bas_carry.specs.Constructs.{is_last}
 use Rattle.bas_carry.specs.Codes.{section_size, cond_size, loopc_size, closing_size, part_end_size, sections_size, stmt_size, block_size}
 use Rattle.bas_carry.specs.Tables.{Labels, section_labels, closing_labels, block_labels, stmt_labels, sections_labels}

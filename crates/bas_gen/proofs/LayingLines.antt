@@ -11,7 +11,6 @@ use Rattle.bas_ast.specs.declared.block.Stmt.{Stmt}
 use Rattle.bas_ast.specs.declared.block.Stmt as stmt_form
 use Rattle.bas_ast.specs.declared.block.Section.{Section}
 use Rattle.bas_ast.proofs.BlockTrees.{stmt_nest, stmt_single}
-use Rattle.bas_mean.specs.Block.{first_of}
 use Rattle.bas_carry.specs.Constructs.{is_last}
 use Rattle.bas_carry.specs.Codes.{expr_size, plain_size, single_size, sections_size, stmt_size}
 use Rattle.bas_carry.specs.Tables.{Labels, stmt_labels, sections_labels}
@@ -29,10 +28,6 @@ pub last_of : (xs : List Section) (i k : ℕ) → k + (i + 1) ≡ length xs → 
 last_of xs i k count =
     let size : k ≡ length (drop (i + 1) xs) = let d = length-drop (i + 1) xs in omega arith in
     ap (λ n. n == 0) size ∙ empty_last (drop (i + 1) xs)
-
-pub first_is : (xs : List Section) (x : Section) (close : ℕ) → slice_get xs 0 ≡ Some x → first_of (sections_tree xs) close ≡ (section_tree x).0.line
-first_is [] x close e = let bad : None ≡ Some x = e in absurd cc
-first_is (y ∷ ys) x close e = let same : y ≡ x = cc in ap (λ z. (section_tree z).0.line) same
 
 pub let_counted : (p : t.Plain) (ts items : List AstTarget) (e : t.Expr) (b : Bool) (n m : ℕ) → p ≡ t.Let (map target_tree ts) e → items ≡ ts → b ≡ (length items == 0) → b ≡ false → n ≡ counted (expr_size e) → m ≡ counted (n + 2) → m ≡ counted (plain_size p)
 let_counted p [] items e b n m ep ei eb ef en em = let bad : true ≡ false = sym (eb ∙ ap (λ l. length l == 0) ei) ∙ ef in absurd cc

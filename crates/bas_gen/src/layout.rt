@@ -29,7 +29,6 @@ ghost use Rattle.bas_carry.specs.Tables.{
   sections_labels,
   closing_labels,
 };
-ghost use Rattle.bas_mean.specs.Block.{line_of, first_of};
 ghost use Rattle.bas_genexpr.specs.Counts.{code_limit, counted};
 ghost use Rattle.bas_ast.specs.ConditionTree.{cond_tree};
 ghost use Rattle.bas_carry.specs.Codes.{cond_size, part_end_size};
@@ -159,25 +158,6 @@ fn further(from: u32, size: u32) -> u32
     from.saturating_add(size)
 }
 
-// The number of the line that a statement begins with.
-fn number_of(stmt: &Stmt) -> u32
-    ensures { result ≡ line_of (stmt_tree stmt.now) }
-{
-    match stmt {
-        Stmt::Single(line) => line.line.number(),
-        Stmt::Nest { sections, end } => first_number(sections.as_slice(), end),
-    }
-}
-
-fn first_number(sections: &[Section], end: &NumLine) -> u32
-    ensures { result ≡ first_of (sections_tree sections.now) end.now.line }
-{
-    match sections.first() {
-        Some(section) => section.head.line.number(),
-        None => end.line.number(),
-    }
-}
-
 /// Whether the sections behind this one are built too.
 pub fn continues(going: bool, item: &LineItem) -> bool
     ensures { result ≡ goes_on going (item_tree item.now) }
@@ -260,7 +240,7 @@ fn lay_stmts(
     let mut size = 0;
     for next in stmts {
         let at = further(from, size);
-        put_label(layout, Target::Line(number_of(next)), at)?;
+        put_label(layout, Target::Line(next.first_line().number()), at)?;
         let own = lay_stmt(alloc, layout, at, next)?;
         size = joined(size, own);
     }

@@ -5,7 +5,8 @@ use Rattle.std.specs.Cmp.{nat_eq_equiv}
 use Rattle.bas_ast.specs.Tree.{Plain, Goto, ExitDo, Alone, Do, LineItem, OfSimple, OfPart, NumLine, Stmt, Single, Nest, Sections, NoSections, MoreSections, Block, NoStmts, MoreStmts, Program}
 use Rattle.bas_mean.specs.Outcome.{Target, LineOf, EndOf}
 use Rattle.bas_mean.specs.Place.{Around, Closing, Bare, ClosedBy}
-use Rattle.bas_mean.specs.Block.{Past, hit_if, line_of, first_or, from_line, at_closing, or_at}
+use Rattle.bas_ast.specs.Accessors.{line_of}
+use Rattle.bas_mean.specs.Block.{Past, hit_if, first_or, from_line, at_closing, or_at}
 use Rattle.bas_mean.specs.Construct.{in_do}
 use Rattle.bas_mean.specs.Meaning.{outermost, program_region}
 use Rattle.bas_mean.specs.Jumps.{near_in, is_hit, near_in_loop, may_exit, jumps_in_plain, jumps_in_item, jumps_in_section, jumps_in_stmt, jumps_in_sections, jumps_in_block, jumps_are_right}

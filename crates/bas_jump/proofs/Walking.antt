@@ -14,13 +14,9 @@ use Rattle.bas_ast.specs.declared.block.Section.{Section, out-Section}
 use Rattle.bas_ast.specs.declared.block.Stmt.{Stmt}
 use Rattle.bas_ast.specs.declared.block.Stmt as stmt_form
 use Rattle.bas_ast.proofs.BlockTrees.{stmt_single, stmt_nest, section_out}
-use Rattle.bas_mean.specs.Block.{line_of, first_of}
+use Rattle.bas_ast.specs.Accessors.{line_of}
 use Rattle.bas_jump.specs.Faults.{numbers_of_block, Reach, is_listed, within, is_do, closing_line, inside, line_fault, stmt_fault, sections_fault, block_fault, section_fault, jump_fault}
 use Rattle.bas_jump.specs.Sets.{HasNumbers, reached, Found}
-
-pub first_is : (xs : List Section) (x : Section) (close : ℕ) → slice_get xs 0 ≡ Some x → first_of (sections_tree xs) close ≡ (section_tree x).0.line
-first_is [] x close e = let bad : None ≡ Some x = e in absurd cc
-first_is (y ∷ ys) x close e = let same : y ≡ x = cc in ap (λ z. (section_tree z).0.line) same
 
 swapped : (a b : Bool) → (a || (b || false)) ≡ (b || a)
 swapped true true = refl

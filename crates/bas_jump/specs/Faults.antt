@@ -3,7 +3,7 @@
 use Rattle.std.specs.Prelude.{◌≡◌, ℕ, Bool, true, false, ◌||◌, List, [], ◌∷◌, Option, Some, None, nat_eq}
 use Rattle.std.specs.List.{list_any}
 use Rattle.bas_ast.specs.Tree.{Plain, Goto, ExitDo, Alone, Do, LineItem, OfSimple, OfPart, NumLine, Stmt, Single, Nest, Sections, NoSections, MoreSections, Block, NoStmts, MoreStmts, Program}
-use Rattle.bas_mean.specs.Block.{line_of}
+use Rattle.bas_ast.specs.Accessors.{line_of}
 use Rattle.bas_mean.specs.Jumps.{jumps_are_right}
 
 -- the numbers of the lines of a block: those with which its statements begin, and the line that closes

@@ -1,35 +1,15 @@
 //! The numbers of the lines of a block.
 
 ghost use Rattle.std.specs.Prelude.{◌≡◌, IfOk};
-ghost use Rattle.bas_ast.specs.BlockTree.{stmt_tree, block_tree, sections_tree, stmts_tree};
+ghost use Rattle.bas_ast.specs.BlockTree.{block_tree, stmts_tree};
 ghost use Rattle.bas_ast.specs.Tree.{NoStmts};
-ghost use Rattle.bas_mean.specs.Block.{line_of, first_of};
 ghost use Rattle.bas_jump.specs.Faults.{numbers_of_block};
 ghost use Rattle.bas_jump.specs.Sets.{HasNumbers};
 
-use bas_ast::{Block, NumLine, Section, Stmt};
+use bas_ast::{Block, Stmt};
 use bas_base::Line;
 use std::alloc::{AllocError, Global};
 use std::collections::BTreeSet;
-
-fn number_of_sections(sections: &[Section], end: &NumLine) -> u32
-    ensures { result ≡ first_of (sections_tree sections.now) end.now.line }
-{
-    match sections.first() {
-        Some(section) => section.head.line.number(),
-        None => end.line.number(),
-    }
-}
-
-// The number of the line with which a statement begins.
-fn number_of_stmt(stmt: &Stmt) -> u32
-    ensures { result ≡ line_of (stmt_tree stmt.now) }
-{
-    match stmt {
-        Stmt::Single(line) => line.line.number(),
-        Stmt::Nest { sections, end } => number_of_sections(sections.as_slice(), end),
-    }
-}
 
 fn closing_numbers(alloc: Global, closing: Option<Line>) -> Result<BTreeSet<u32>, AllocError>
     ensures { IfOk result (λ set. HasNumbers set (numbers_of_block NoStmts closing)) }
@@ -50,7 +30,7 @@ fn numbers_of_stmts(
 {
     let mut set = closing_numbers(alloc, closing)?;
     for next in stmts {
-        set.insert(number_of_stmt(next))?;
+        set.insert(next.first_line().number())?;
     }
     Ok(set)
 }

@@ -1,19 +1,10 @@
 -- Blocks: where a jump goes on, and what a loop makes of the end of its block.
 use Rattle.std.specs.Prelude.{ℕ, Bool, true, false, Option, Some, None, nat_eq}
-use Rattle.bas_ast.specs.Tree.{Stmt, Single, Nest, Sections, NoSections, MoreSections, Block, NoStmts, MoreStmts}
+use Rattle.bas_ast.specs.Tree.{Block, NoStmts, MoreStmts}
+use Rattle.bas_ast.specs.Accessors.{line_of}
 use Rattle.bas_mean.specs.World.{World}
 use Rattle.bas_mean.specs.Outcome.{Target, LineOf, EndOf, TurnOf, Outcome, Normal, Jumps, takes_none, route}
 use Rattle.bas_mean.specs.Place.{Closing, Bare, ClosedBy, Region}
-
--- the number of a statement's first line
-abbrev pub first_of : Sections → (close : ℕ) → ℕ
-first_of NoSections close = close
-first_of (MoreSections head body rest) close = head.line
-
--- the number of the line that a statement begins with
-abbrev pub line_of : Stmt → ℕ
-line_of (Single l) = l.line
-line_of (Nest sections close) = first_of sections close.line
 
 -- a where the test holds, else the option
 abbrev pub first_or : {A : Type 0} → Bool → A → Option A → Option A

@@ -5,7 +5,8 @@ use Rattle.std.proofs.lemmas.Bool.{eqb-true}
 use Rattle.bas_ast.specs.Tree.{Expr, Target as Place, Variable, NoExprs, MoreExprs, Sep, Pitem, Printed, Plain, Let, Print, Goto, ExitDo, Simple, Alone, Cond, Loopc, If, Elseif, Else, Do, Loop, End, LineItem, Nothing, Rem, OfSimple, OfPart, NumLine, Stmt, Single, Nest, Sections, NoSections, MoreSections, Block, NoStmts, MoreStmts}
 use Rattle.bas_mean.specs.Outcome.{Target, LineOf, EndOf, TurnOf}
 use Rattle.bas_mean.specs.Place.{Around, Closing, Bare, ClosedBy}
-use Rattle.bas_mean.specs.Block.{line_of, from_line, at_closing, or_at, first_or, landing, Hit, Past, Round, Elsewhere, hit, hit_if}
+use Rattle.bas_ast.specs.Accessors.{line_of}
+use Rattle.bas_mean.specs.Block.{from_line, at_closing, or_at, first_or, landing, Hit, Past, Round, Elsewhere, hit, hit_if}
 use Rattle.bas_mean.specs.Construct.{in_do}
 use Rattle.bas_code.specs.declared.instr.Instr.TheVariants as instr
 use Rattle.bas_code.specs.declared.instr.JumpInstr.TheVariants.{Jump}
