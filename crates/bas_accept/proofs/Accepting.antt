@@ -11,6 +11,7 @@ use Rattle.bas_block.proofs.FileLaws.{files_are_read, all_files_are_read}
 use Rattle.bas_check.specs.Unbuilt.{unbuilt_line}
 use Rattle.bas_check.proofs.Telling.{tells_built}
 use Rattle.bas_jump.specs.Faults.{jump_fault}
+use Rattle.bas_jump.specs.declared.line.JumpFault.{JumpFault}
 use Rattle.bas_jump.proofs.Telling.{tells_jumps}
 use Rattle.bas_accept.proofs.Sounding.{accepted_is_sound}
 use Rattle.bas_accept.specs.declared.acceptance.Refusal.{Refusal}
@@ -26,7 +27,7 @@ RightJumps o = (p : Program) → o ≡ Some p → jumps_are_right p ≡ true
 
 -- ---- what is accepted is in the relation
 
-no_jump : (us units : List SourceUnit) (o : Option (ℕ × ℕ)) → unless_jump us o ≡ Ok units → (us ≡ units) × (o ≡ None)
+no_jump : (us units : List SourceUnit) (o : Option JumpFault) → unless_jump us o ≡ Ok units → (us ≡ units) × (o ≡ None)
 no_jump us units None e = (ap units_in e, refl)
 no_jump us units (Some found) e = absurd (cc)
 

@@ -10,6 +10,7 @@ use Rattle.bas_block.specs.declared.file.SourceFault.{SourceFault}
 use Rattle.bas_block.specs.declared.file.SourceFault.TheVariants.{BadLine}
 use Rattle.bas_check.specs.Unbuilt.{unbuilt_line}
 use Rattle.bas_jump.specs.Faults.{jump_fault}
+use Rattle.bas_jump.specs.declared.line.JumpFault.{JumpFault}
 use Rattle.bas_accept.specs.declared.acceptance.Refusal.{Refusal}
 use Rattle.bas_accept.specs.declared.acceptance.Refusal.TheVariants.{Source, Rule}
 
@@ -24,9 +25,9 @@ pub record IsAccepted (file : List ℕ) (units : List SourceUnit) : Type 0 where
 -- ---- the first refusal
 
 -- a jump that may not go where it goes: its rule, and its line
-abbrev pub unless_jump : List SourceUnit → Option (ℕ × ℕ) → Result (List SourceUnit) Refusal
+abbrev pub unless_jump : List SourceUnit → Option JumpFault → Result (List SourceUnit) Refusal
 unless_jump units None = Ok units
-unless_jump units (Some found) = Err (Rule found.1 found.0)
+unless_jump units (Some found) = Err (Rule found.rule found.line)
 
 -- the jumps of the first program
 abbrev pub with_right_jumps : List SourceUnit → Option Program → Result (List SourceUnit) Refusal
@@ -38,6 +39,7 @@ abbrev pub unless_unbuilt : List SourceUnit → Option ℕ → Result (List Sour
 unless_unbuilt units (Some line) = Err (Source (BadLine line))
 unless_unbuilt units None = with_right_jumps units (first_program units)
 
+-- the units that a file has, where nothing in them is refused
 abbrev pub accepted_units : Result (List SourceUnit) SourceFault → Result (List SourceUnit) Refusal
 accepted_units (Err fault) = Err (Source fault)
 accepted_units (Ok units) = unless_unbuilt units (unbuilt_line units)

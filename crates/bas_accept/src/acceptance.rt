@@ -89,7 +89,7 @@ fn jump_refusal(alloc: Global, units: &[Unit]) -> Result<Option<Refusal>, AllocE
         return Ok(None);
     };
     match jump_fault(alloc, program)? {
-        Some((line, rule)) => Ok(Some(Refusal::Rule(rule, line))),
+        Some(found) => Ok(Some(Refusal::Rule(found.rule, found.line))),
         None => Ok(None),
     }
 }
@@ -118,7 +118,8 @@ fn first_answer(alloc: Global, file: &[u8]) -> Result<Vec<Unit>, Refusal>
 
 /// The units of a source file, in their order, or its first refusal: by its lines and their nesting,
 /// then `BadLine` at the first line with a construct that is not built, then the first jump that may
-/// not go where it goes. It takes time and memory in proportion to the file.
+/// not go where it goes. It takes memory in proportion to the file, and so much time, but for the sets
+/// of line numbers in which jumps are looked up.
 #[tactic(auto, using(crate::proofs::Accepting::has_sound_program))]
 pub fn accepted(alloc: Global, file: &[u8]) -> Result<Vec<Unit>, Refusal>
     ensures found { IfOk result (λ units. IsAccepted file.now (map unit_tree units.items)) }

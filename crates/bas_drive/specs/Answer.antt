@@ -107,7 +107,7 @@ abbrev pub command_answer : Option Command → Files → (input : List ℕ) → 
 command_answer None files input = without_output Usage
 command_answer (Some (Go name lines)) files input = file_answer name lines input (get files name)
 
--- the answer to the words: what is printed, and how the command ends
+-- the answer to the words: what is printed and reported by the run, and how the command ends
 abbrev pub answer_of : List (List ℕ) → Files → (input : List ℕ) → Outcome
 answer_of words files input = command_answer (command_of words) files input
 

@@ -18,7 +18,7 @@ use Rattle.bas_carry.specs.Codes.{own_place, expr_code, plain_code}
 use Rattle.bas_genexpr.specs.Counts.{code_limit}
 use Rattle.bas_genexpr.proofs.Pieces.{three}
 use Rattle.bas_gen.specs.declared.output.Output.{Output}
-use Rattle.bas_gen.specs.Emitting.{ahead, Emits}
+use Rattle.bas_gen.specs.Emitting.{Emits}
 
 pub let_made : (order : List Variable) (addr : outcome.Target → ℕ) (around : Around) (p : t.Plain) (ts items : List Target) (x : Target) (e : t.Expr) (place : Place) (a b c d : List Instr) → p ≡ t.Let (map target_tree ts) e → items ≡ ts → slice_get items 0 ≡ Some x → place ≡ own_place order (OfName (out-Target x).name) → b ≡ a ++ instr.Push (push.Ref place) ∷ [] → c ≡ b ++ expr_code order e → d ≡ c ++ instr.Store (store.Store 1) ∷ [] → d ≡ a ++ plain_code order addr around p
 let_made order addr around p [] items x e place a b c d ep ei eg el p1 p2 p3 = let bad : None ≡ Some x = ap (λ l. slice_get l 0) (sym ei) ∙ eg in absurd cc
@@ -32,14 +32,14 @@ let_made order addr around p (y ∷ ys) items x e place a b c d ep ei eg el p1 p
 
 -- what is made, with what is left, is the whole
 pub record At (now : Output) (more left_sizes : List ℕ) (left_size : ℕ) (whole : List Instr) (rows : List LineEntry) (left_code : ℕ → List Instr) (left_rows : ℕ → List LineEntry) : Type 0 where
-  pub sizes : ahead now ≡ left_sizes ++ more
+  pub sizes : now.sizes ≡ left_sizes ++ more
   pub room : length now.code + left_size ≤ code_limit
   pub code : now.code ++ left_code (length now.code) ≡ whole
   pub lines : now.lines.items ++ left_rows (length now.code) ≡ rows
 
 abbrev pub Making : (old now : Output) → (all_sizes left_sizes : List ℕ) → (all_size left_size : ℕ) → (all_code left_code : ℕ → List Instr) → (all_rows left_rows : ℕ → List LineEntry) → Type 0
 Making old now all_sizes left_sizes all_size left_size all_code left_code all_rows left_rows =
-    (more : List ℕ) → ahead old ≡ all_sizes ++ more → length old.code + all_size ≤ code_limit
+    (more : List ℕ) → old.sizes ≡ all_sizes ++ more → length old.code + all_size ≤ code_limit
     → At now more left_sizes left_size (old.code ++ all_code (length old.code)) (old.lines.items ++ all_rows (length old.code)) left_code left_rows
 
 pub making_first : (old : Output) (sizes : List ℕ) (size : ℕ) (code : ℕ → List Instr) (rows : ℕ → List LineEntry) → Making old old sizes sizes size size code code rows rows

@@ -13,13 +13,13 @@ use Rattle.bas_genexpr.specs.Counts.{code_limit}
 use Rattle.bas_gen.specs.declared.output.Output.{Output}
 use Rattle.bas_gen.specs.Generated.{program_size}
 use Rattle.bas_gen.specs.Layouts.{block_list}
-use Rattle.bas_gen.specs.Emitting.{ahead, Emits, EntersClosing, closing_end}
+use Rattle.bas_gen.specs.Emitting.{Emits, EntersClosing, closing_end}
 
 end_small : (item : t.LineItem) → is_end item ≡ true → closing_end item ≡ closing_size item
 end_small (t.OfPart (t.Loop loopc)) e = let bad : false ≡ true = e in absurd cc
 end_small _ e = refl
 
-pub program_made : (order : List Variable) (addr : outcome.Target → ℕ) (p : t.Program) (o0 o1 o2 new : Output) (code2 : List Instr) (from : ℕ) → o0.code ≡ [] → o0.lines.items ≡ [] → ahead o0 ≡ block_list p.body
+pub program_made : (order : List Variable) (addr : outcome.Target → ℕ) (p : t.Program) (o0 o1 o2 new : Output) (code2 : List Instr) (from : ℕ) → o0.code ≡ [] → o0.lines.items ≡ [] → o0.sizes ≡ block_list p.body
     → Emits o0 o1 (block_list p.body) (block_size p.body) (λ at. block_code order addr outermost p.body at) (λ at. block_rows p.body at)
     → from ≡ length o1.code → (length o1.code + closing_size p.close.item ≤ code_limit → code2 ≡ o1.code ++ closing_code order addr 0 p.close.line p.close.item (length o1.code))
     → o2.code ≡ code2 → o2.lines.items ≡ o1.lines.items → EntersClosing o2 new p.close.line p.close.item from 0 → program_size p ≤ code_limit → is_end p.close.item ≡ true

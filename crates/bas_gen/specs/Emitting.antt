@@ -15,20 +15,16 @@ use Rattle.bas_genexpr.specs.Counts.{code_limit}
 use Rattle.bas_genexpr.specs.Sizes.{IsNext}
 use Rattle.bas_gen.specs.declared.output.Output.{Output}
 
--- the sizes that are not read yet
-abbrev pub ahead : Output → List ℕ
-ahead x = drop x.read x.sizes.items
-
--- the sizes ahead were read, and code and lines were appended
+-- the sizes were.sizes read, and code and lines were appended
 pub record Appended (old new : Output) (rest : List ℕ) (made : List Instr) (rows : List LineEntry) : Type 0 where
-  pub sizes : ahead new ≡ rest
+  pub sizes : new.sizes ≡ rest
   pub code : new.code ≡ old.code ++ made
   pub lines : new.lines.items ≡ old.lines.items ++ rows
 
--- where the sizes ahead begin with these and there is room, code and lines were appended
+-- where the sizes begin.sizes with these and there is room, code and lines were appended
 abbrev pub Emits : (old new : Output) → (sizes : List ℕ) → (size : ℕ) → (code : ℕ → List Instr) → (lines : ℕ → List LineEntry) → Type 0
 Emits old new sizes size code lines =
-    (rest : List ℕ) → ahead old ≡ sizes ++ rest → length old.code + size ≤ code_limit → Appended old new rest (code (length old.code)) (lines (length old.code))
+    (rest : List ℕ) → old.sizes ≡ sizes ++ rest → length old.code + size ≤ code_limit → Appended old new rest (code (length old.code)) (lines (length old.code))
 
 -- the code of a line that closes a block, with the jump back of LOOP
 abbrev pub closing_end : LineItem → ℕ
@@ -37,20 +33,20 @@ closing_end item = closing_size item
 
 -- a size was read
 pub record Took (old new : Output) (size : ℕ) : Type 0 where
-  pub next : IsNext (ahead old) size (ahead new)
+  pub next : IsNext old.sizes size new.sizes
   pub code : new.code ≡ old.code
   pub lines : new.lines.items ≡ old.lines.items
 
 -- a line was entered, where its addresses are some
 pub record Entered (old new : Output) (line start end next : ℕ) : Type 0 where
-  pub sizes : ahead new ≡ ahead old
+  pub sizes : new.sizes ≡ old.sizes
   pub code : new.code ≡ old.code
   pub lines : start ≤ code_limit → end ≤ code_limit → next ≤ code_limit → new.lines.items ≡ old.lines.items ++ entry line start end next ∷ []
 
 -- the row of a line that closes a block was entered, where its addresses are some
 abbrev pub EntersClosing : (old new : Output) → (line : ℕ) → LineItem → (from finish : ℕ) → Type 0
 EntersClosing old new line item from finish =
-    from + closing_end item ≤ code_limit → finish ≤ code_limit → Appended old new (ahead old) [] (closing_rows line item from finish)
+    from + closing_end item ≤ code_limit → finish ≤ code_limit → Appended old new old.sizes [] (closing_rows line item from finish)
 
 -- inside a loop, or in none
 abbrev pub around_of : Option ℕ → Around

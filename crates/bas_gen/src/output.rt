@@ -6,29 +6,22 @@ ghost use Rattle.bas_gen.specs.Emitting.{Entered, Took};
 
 use bas_base::Line;
 use bas_code::LineEntry;
-use bas_genexpr::{CODE_LIMIT, Code};
+use bas_genexpr::{CODE_LIMIT, Code, Sizes};
 use std::alloc::AllocError;
 
-/// Code and lines, and the sizes of which some are read.
+/// Code and lines, and the sizes that are still to be read.
 #[derive(Debug, Drop)]
 pub struct Output {
     pub code: Code,
     pub lines: Vec<LineEntry>,
-    pub sizes: Vec<u32>,
-    pub read: usize,
+    pub sizes: Sizes,
 }
 
 /// The next size, or 0 where none is ahead.
 pub fn next_size(output: &mut Output) -> u32
     ensures { Took output.old output.new result }
 {
-    match output.sizes.get(output.read) {
-        Some(size) => {
-            output.read += 1;
-            *size
-        }
-        None => 0,
-    }
+    output.sizes.next()
 }
 
 // An address, which is none of the body past the limit.

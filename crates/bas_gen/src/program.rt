@@ -20,8 +20,8 @@ use crate::output::Output;
 use crate::targets::{Targets, targets_of};
 use bas_ast::Program;
 use bas_base::Seq;
-use bas_code::{BodyKind, Proc, PushInstr};
-use bas_genexpr::{CODE_LIMIT, Code, GenFault, Slots, joined};
+use bas_code::{BodyKind, Proc};
+use bas_genexpr::{CODE_LIMIT, Code, GenFault, Sizes, Slots, joined};
 use std::alloc::{AllocError, Global};
 
 // Sizes and targets, where the program is not too large.
@@ -66,8 +66,7 @@ fn write(
     let mut output = Output {
         code: Code::new(alloc),
         lines: Vec::new(alloc),
-        sizes,
-        read: 0,
+        sizes: Sizes::of(sizes),
     };
     emit_block(alloc, &mut output, slots, targets, &program.body, None)?;
     let from = output.code.len();
@@ -83,7 +82,6 @@ pub fn generate(alloc: Global, program: &Program) -> Result<Proc, GenFault>
     ensures within { IfOk result (λ proc. IsWithin (program_tree program.now)) }
     ensures refused { IfErr result (λ fault. IsRefused fault (program_tree program.now)) }
 {
-    let _named: Option<PushInstr> = None;
     let layout = lay_out(alloc, program)?;
     let slots = number(alloc, program)?;
     let count = slots.count();

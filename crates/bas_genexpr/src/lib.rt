@@ -21,6 +21,7 @@ pub use fault::GenFault;
 pub use listing::condition_size;
 pub use names::{number_condition, number_expression};
 pub use size::{CODE_LIMIT, expression_size, joined};
+pub use sizes::Sizes;
 pub use slots::{SLOT_LIMIT, Slots};
 
 #[cfg(test)]

@@ -1,3 +1,5 @@
+//! The sizes that one walk listed, read by the next one in the same order.
+
 ghost use Rattle.std.specs.Prelude.{◌≡◌};
 ghost use Rattle.bas_genexpr.specs.Sizes.{IsNext};
 

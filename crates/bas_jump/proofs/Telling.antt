@@ -11,12 +11,13 @@ use Rattle.bas_mean.specs.Construct.{in_do}
 use Rattle.bas_mean.specs.Meaning.{outermost, program_region}
 use Rattle.bas_mean.specs.Jumps.{near_in, is_hit, near_in_loop, may_exit, jumps_in_plain, jumps_in_item, jumps_in_section, jumps_in_stmt, jumps_in_sections, jumps_in_block, jumps_are_right}
 use Rattle.bas_jump.specs.Faults.{numbers_of_block, Reach, is_listed, is_do, inside, unless, first_fault, plain_fault, line_fault, stmt_fault, sections_fault, block_fault, in_program, jump_fault, TellsJumps}
+use Rattle.bas_jump.specs.declared.line.JumpFault.{JumpFault}
 
-abbrev nothing : Option (ℕ × ℕ) → Bool
+abbrev nothing : Option JumpFault → Bool
 nothing None = true
 nothing (Some fault) = false
 
-nothing_first : (a b : Option (ℕ × ℕ)) → nothing (first_fault a b) ≡ (nothing a && nothing b)
+nothing_first : (a b : Option JumpFault) → nothing (first_fault a b) ≡ (nothing a && nothing b)
 nothing_first None b = refl
 nothing_first (Some fault) b = refl
 
@@ -113,7 +114,7 @@ outermost_agrees p = record {
 program_tells : (p : Program) → nothing (jump_fault p) ≡ jumps_are_right p
 program_tells p = block_tells p.body (in_program p) outermost (near_in (program_region p) (λ t. false)) (outermost_agrees p)
 
-is_nothing : (o : Option (ℕ × ℕ)) → nothing o ≡ true → o ≡ None
+is_nothing : (o : Option JumpFault) → nothing o ≡ true → o ≡ None
 is_nothing None e = refl
 is_nothing (Some fault) e = let bad : false ≡ true = e in absurd cc
 

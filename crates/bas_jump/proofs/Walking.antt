@@ -16,6 +16,7 @@ use Rattle.bas_ast.specs.declared.block.Stmt as stmt_form
 use Rattle.bas_ast.proofs.BlockTrees.{stmt_single, stmt_nest, section_out}
 use Rattle.bas_ast.specs.Accessors.{line_of}
 use Rattle.bas_jump.specs.Faults.{numbers_of_block, Reach, is_listed, within, is_do, closing_line, inside, line_fault, stmt_fault, sections_fault, block_fault, section_fault, jump_fault}
+use Rattle.bas_jump.specs.declared.line.JumpFault.{JumpFault}
 use Rattle.bas_jump.specs.Sets.{HasNumbers, reached, Found}
 
 swapped : (a b : Bool) → (a || (b || false)) ≡ (b || a)
@@ -32,7 +33,7 @@ opened sets set numbers outer exit has =
     in
     λ i. record { lines = λ l. each l i; exit = exit }
 
-pub single_found : (s : Stmt) (line : NumLine) (sets seen : List (BTreeSet ℕ)) (exit : Bool) (found : Option (ℕ × ℕ)) → s ≡ stmt_form.Single line → seen ≡ sets → found ≡ line_fault (reached seen exit) line.line (item_tree line.item) → Found sets sets found (stmt_fault (reached sets exit) (stmt_tree s))
+pub single_found : (s : Stmt) (line : NumLine) (sets seen : List (BTreeSet ℕ)) (exit : Bool) (found : Option JumpFault) → s ≡ stmt_form.Single line → seen ≡ sets → found ≡ line_fault (reached seen exit) line.line (item_tree line.item) → Found sets sets found (stmt_fault (reached sets exit) (stmt_tree s))
 single_found s line sets seen exit found e g h = record {
   answer = h ∙ ap (λ x. line_fault (reached x exit) line.line (item_tree line.item)) g ∙ ap (stmt_fault (reached sets exit)) (sym (ap stmt_tree e ∙ stmt_single line));
   kept = refl;
@@ -66,7 +67,7 @@ dropped old x new popped len e l p =
 
 -- the block of a section is open while it is looked at
 pub section_found :
-    (section : Section) (old pushed new popped : List (BTreeSet ℕ)) (set : BTreeSet ℕ) (in_do loops : Bool) (close : ℕ) (closing : Option ℕ) (found : Option (ℕ × ℕ)) (len : ℕ) →
+    (section : Section) (old pushed new popped : List (BTreeSet ℕ)) (set : BTreeSet ℕ) (in_do loops : Bool) (close : ℕ) (closing : Option ℕ) (found : Option JumpFault) (len : ℕ) →
     loops ≡ is_do (item_tree (out-Section section).head.item) → closing ≡ closing_line loops close → HasNumbers set (numbers_of_block (block_tree (out-Section section).body) closing) → pushed ≡ old ++ set ∷ [] →
     Found pushed new found (block_fault (reached pushed (loops || in_do)) (block_tree (out-Section section).body)) → len ≡ length new → popped ≡ take (len - 1) new →
     Found old popped found (section_fault (reached old in_do) (section_tree section) close)

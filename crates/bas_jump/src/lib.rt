@@ -11,6 +11,7 @@ mod numbers;
 mod program;
 
 pub use law::fault_tells_jumps;
+pub use line::JumpFault;
 pub use program::jump_fault;
 
 #[cfg(test)]

@@ -13,6 +13,14 @@ use bas_ast::{LineItem, Part, Plain, Simple};
 use bas_base::Line;
 use std::collections::BTreeSet;
 
+/// A line whose jump may not go where it goes.
+#[derive(Clone, Copy, Debug)]
+pub struct JumpFault {
+    pub line: Line,
+    /// 4 where `GOTO` names no line of the same or an enclosing block, 6 where `EXIT DO` is in no `DO`.
+    pub rule: u8,
+}
+
 // Whether one of the sets has a number.
 fn is_reached(sets: &[BTreeSet<u32>], number: u32) -> bool
     ensures { result ≡ list_any (λ set. contains nat_cmp set number) sets.now }
@@ -25,14 +33,18 @@ fn is_reached(sets: &[BTreeSet<u32>], number: u32) -> bool
     false
 }
 
-fn unless(is_right: bool, line: Line, rule: u8) -> Option<(Line, u8)>
+fn unless(is_right: bool, line: Line, rule: u8) -> Option<JumpFault>
     ensures { result ≡ fault.unless is_right line rule }
 {
-    if is_right { None } else { Some((line, rule)) }
+    if is_right {
+        None
+    } else {
+        Some(JumpFault { line, rule })
+    }
 }
 
 #[tactic(auto, unfolding(bas_ast::specs::StatementTree::plain_tree))]
-fn plain_fault(sets: &[BTreeSet<u32>], in_do: bool, line: Line, plain: &Plain) -> Option<(Line, u8)>
+fn plain_fault(sets: &[BTreeSet<u32>], in_do: bool, line: Line, plain: &Plain) -> Option<JumpFault>
     ensures { result ≡ fault.plain_fault (reached sets.now in_do) line (plain_tree plain.now) }
 {
     match plain {
@@ -49,7 +61,7 @@ pub fn line_fault(
     in_do: bool,
     line: Line,
     item: &LineItem,
-) -> Option<(Line, u8)>
+) -> Option<JumpFault>
     ensures { result ≡ fault.line_fault (reached sets.now in_do) line (item_tree item.now) }
 {
     match item {

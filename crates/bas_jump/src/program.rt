@@ -12,7 +12,7 @@ ghost use Rattle.bas_ast.specs.UnitTree.{program_tree};
 ghost use Rattle.bas_jump.specs.Faults as fault;
 ghost use Rattle.bas_jump.specs.Sets.{reached, Found};
 
-use crate::line::{closing_line, is_do, line_fault};
+use crate::line::{JumpFault, closing_line, is_do, line_fault};
 use crate::numbers::numbers_of;
 use bas_ast::{Block, Program, Section, Stmt};
 use bas_base::Line;
@@ -25,7 +25,7 @@ fn block_fault(
     sets: &mut Vec<BTreeSet<u32>>,
     in_do: bool,
     block: &Block,
-) -> Result<Option<(Line, u8)>, AllocError>
+) -> Result<Option<JumpFault>, AllocError>
     ensures { IfOk result (λ found. Found sets.old.items sets.new.items found (fault.block_fault (reached sets.old.items in_do) (block_tree block.now))) }
 {
     stmts_fault(alloc, sets, in_do, block.stmts.as_slice())
@@ -37,7 +37,7 @@ fn stmts_fault(
     sets: &mut Vec<BTreeSet<u32>>,
     in_do: bool,
     stmts: &[Stmt],
-) -> Result<Option<(Line, u8)>, AllocError>
+) -> Result<Option<JumpFault>, AllocError>
     ensures { IfOk result (λ found. Found sets.old.items sets.new.items found (fault.block_fault (reached sets.old.items in_do) (stmts_tree stmts.now))) }
 {
     for next in stmts {
@@ -54,7 +54,7 @@ fn stmt_fault(
     sets: &mut Vec<BTreeSet<u32>>,
     in_do: bool,
     stmt: &Stmt,
-) -> Result<Option<(Line, u8)>, AllocError>
+) -> Result<Option<JumpFault>, AllocError>
     ensures { IfOk result (λ found. Found sets.old.items sets.new.items found (fault.stmt_fault (reached sets.old.items in_do) (stmt_tree stmt.now))) }
 {
     match stmt {
@@ -72,7 +72,7 @@ fn sections_fault(
     in_do: bool,
     sections: &[Section],
     end: Line,
-) -> Result<Option<(Line, u8)>, AllocError>
+) -> Result<Option<JumpFault>, AllocError>
     ensures { IfOk result (λ found. Found sets.old.items sets.new.items found (fault.sections_fault (reached sets.old.items in_do) (sections_tree sections.now) end)) }
 {
     for section in sections {
@@ -91,7 +91,7 @@ fn section_fault(
     in_do: bool,
     section: &Section,
     end: Line,
-) -> Result<Option<(Line, u8)>, AllocError>
+) -> Result<Option<JumpFault>, AllocError>
     ensures { IfOk result (λ found. Found sets.old.items sets.new.items found (fault.section_fault (reached sets.old.items in_do) (section_tree section.now) end)) }
 {
     let loops = is_do(&section.head.item);
@@ -102,9 +102,8 @@ fn section_fault(
     Ok(found)
 }
 
-/// The first line of a program whose jump may not go where it goes, with the rule that it breaks: 4
-/// where `GOTO` names no line of the same or an enclosing block, 6 where `EXIT DO` is in no `DO`.
-pub fn jump_fault(alloc: Global, program: &Program) -> Result<Option<(Line, u8)>, AllocError>
+/// The first line of a program whose jump may not go where it goes, with the rule that it breaks.
+pub fn jump_fault(alloc: Global, program: &Program) -> Result<Option<JumpFault>, AllocError>
     ensures { IfOk result (λ found. found ≡ fault.jump_fault (program_tree program.now)) }
 {
     let mut sets = Vec::new(alloc);

@@ -57,7 +57,7 @@ fn fault_of(alloc: Global, first: Stmt, inner: Stmt) -> Result<Option<(u32, u8)>
         end,
     };
     let found = jump_fault(alloc, &program)?;
-    Ok(found.map(|(line, rule)| (line.number(), rule)))
+    Ok(found.map(|fault| (fault.line.number(), fault.rule)))
 }
 
 #[test]

@@ -64,7 +64,7 @@ pub emit_test-returns : goal.emit_test-returns
 emit_test-returns t c =
     on_ok_weaker c.put_part_end.result
     (λ e h. test_emits (variables c.args.slots.now) (address_at c.args.targets.now) (around_of c.args.spot.do_line) c.args.line (cond_tree c.args.c.now) (block_tree c.args.body.now) c.args.spot.last c.args.spot.finish
-    c.args.output.now c.next_size-block.new.output (record { code = c.put_aimed.new.code; lines = c.next_size-block.new.output.lines; sizes = c.next_size-block.new.output.sizes; read = c.next_size-block.new.output.read }) c.enter.new.output c.emit_block.new.output (record { code = c.put_part_end.new.code; lines = c.emit_block.new.output.lines; sizes = c.emit_block.new.output.sizes; read = c.emit_block.new.output.read })
+    c.args.output.now c.next_size-block.new.output (record { code = c.put_aimed.new.code; lines = c.next_size-block.new.output.lines; sizes = c.next_size-block.new.output.sizes }) c.enter.new.output c.emit_block.new.output (record { code = c.put_part_end.new.code; lines = c.emit_block.new.output.lines; sizes = c.emit_block.new.output.sizes })
     c.push.new.self c.put_aimed.new.code c.next_size-block.result c.in_ok-cond.cond c.len-head.result c.len-start.result c.len-end.result c.size_of_part_end.result c.behind.result c.behind-2.result c.behind-to.result c.narrowed.result
     c.len-start.ensures c.next_size-block.ensures c.in_ok-cond.ensures c.in_ok-push.ensures c.len-head.ensures c.behind.ensures c.behind-2.ensures c.size_of_part_end.ensures c.behind-to.ensures c.narrowed.ensures c.in_ok-put_aimed.ensures refl refl refl c.len-end.ensures c.in_ok-enter.ensures c.in_ok-emit_block.ensures e refl refl h)
     c.put_part_end.ensures
@@ -74,7 +74,7 @@ emit_do-returns t c =
     let e = c.number-number.ensures.same in
     on_ok_weaker c.enter_closing.result
     (λ closes h. do_emits (variables c.args.slots.now) (address_at c.args.targets.now) (around_of (Some c.args.line)) c.args.line (option_map loopc_tree c.args.loopc.now) (block_tree c.args.body.now) (line_tree c.args.end.now) c.args.finish
-    c.args.output.now (record { code = c.put_loopc.new.code; lines = c.args.output.now.lines; sizes = c.args.output.now.sizes; read = c.args.output.now.read }) c.enter.new.output c.emit_listed.new.output (record { code = c.push-2.new.self; lines = c.emit_listed.new.output.lines; sizes = c.emit_listed.new.output.sizes; read = c.emit_listed.new.output.read }) c.enter_closing.new.output
+    c.args.output.now (record { code = c.put_loopc.new.code; lines = c.args.output.now.lines; sizes = c.args.output.now.sizes }) c.enter.new.output c.emit_listed.new.output (record { code = c.push-2.new.self; lines = c.emit_listed.new.output.lines; sizes = c.emit_listed.new.output.sizes }) c.enter_closing.new.output
     c.push.new.self c.put_loopc.new.code c.put_closing.new.code c.push-2.new.self c.len-start.result c.len-head.result c.len-from.result c.narrowed.result c.narrowed-2.result
     c.len-start.ensures c.in_ok-push.ensures c.narrowed.ensures c.in_ok-put_loopc.ensures refl refl refl c.len-head.ensures c.in_ok-enter.ensures (rw e at c.in_ok-emit_listed.ensures) c.len-from.ensures (rw e at c.in_ok-put_closing.ensures) c.narrowed-2.ensures c.in_ok-push-2.ensures refl refl refl closes h (closing_small (item_tree c.args.end.now.item)))
     c.enter_closing.ensures

@@ -11,5 +11,5 @@ use Rattle.bas_gen.proofs.emit.emit_alone.Goals as goal
 pub returns : goal.returns
 returns c =
     on_ok_weaker c.enter.result
-    (alone_emits (variables c.args.slots.now) (address_at c.args.targets.now) (around_of c.args.do_line) c.args.line (plain_tree c.args.plain.now) c.args.output.now (record { code = c.put_plain.new.code; lines = c.args.output.now.lines; sizes = c.args.output.now.sizes; read = c.args.output.now.read }) c.enter.new.output c.push.new.self c.put_plain.new.code c.len-start.result c.len-end.result c.len-start.ensures c.in_ok-push.ensures c.in_ok-put_plain.ensures refl refl refl c.len-end.ensures)
+    (alone_emits (variables c.args.slots.now) (address_at c.args.targets.now) (around_of c.args.do_line) c.args.line (plain_tree c.args.plain.now) c.args.output.now (record { code = c.put_plain.new.code; lines = c.args.output.now.lines; sizes = c.args.output.now.sizes }) c.enter.new.output c.push.new.self c.put_plain.new.code c.len-start.result c.len-end.result c.len-start.ensures c.in_ok-push.ensures c.in_ok-put_plain.ensures refl refl refl c.len-end.ensures)
     c.enter.ensures

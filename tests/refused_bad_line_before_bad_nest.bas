@@ -1,0 +1,3 @@
+10 LOOP
+20 PRINT 1 +
+30 END

@@ -1,0 +1,2 @@
+10 EXIT DO
+20 END

@@ -1,0 +1,2 @@
+10 PROGRAM P(A)
+20 END

@@ -1,0 +1,2 @@
+10 REM one
+20 ! two

@@ -1,0 +1,3 @@
+10 PRINT 1
+20 PRINT "one"
+30 END

@@ -1,0 +1,4 @@
+10 REM one
+20 PROGRAM P
+30 END
+40 REM two

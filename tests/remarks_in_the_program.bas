@@ -1,0 +1,3 @@
+10 REM one
+20
+30 END ! two
