@@ -1,8 +1,9 @@
 //! The nesting of numbered lines: which lines are which units.
 //!
 //! Which lines are which trees stands in `specs/Units.antt`, over the roles of lines in
-//! `specs/Constructs.antt`. `line_read` reads one line after the other in constant time, and `None` is its
-//! answer at the first line that no nesting takes; the laws of `src/law.rt` join it to the relation.
+//! `specs/Constructs.antt`. `line_read` reads one line after the other in constant time, but for the
+//! first line of a program without `PROGRAM`, which takes with it each remark that waits before it. `None` is
+//! the answer at the first line that no nesting takes; the laws of `src/law.rt` join it to the relation.
 #![tactic(auto)]
 
 mod body;
