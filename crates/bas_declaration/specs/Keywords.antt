@@ -21,56 +21,56 @@ use Rattle.bas_declaration.specs.declared.keyword.LoopWord.TheVariants as turn
 -- the words of branches and loops
 abbrev pub loop_word : List ℕ → Option Keyword
 loop_word text =
-    if str_eq_ignore_ascii_case text (codes "IF") then Some k.If else if str_eq_ignore_ascii_case text (codes "IF") then Some k.If else (
-    if str_eq_ignore_ascii_case text (codes "THEN") then Some k.Then else if str_eq_ignore_ascii_case text (codes "THEN") then Some k.Then else (
-    if str_eq_ignore_ascii_case text (codes "ELSEIF") then Some k.Elseif else if str_eq_ignore_ascii_case text (codes "ELSEIF") then Some k.Elseif else (
-    if str_eq_ignore_ascii_case text (codes "ELSE") then Some k.Else else if str_eq_ignore_ascii_case text (codes "ELSE") then Some k.Else else (
-    if str_eq_ignore_ascii_case text (codes "FOR") then Some k.For else if str_eq_ignore_ascii_case text (codes "FOR") then Some k.For else (
-    if str_eq_ignore_ascii_case text (codes "TO") then Some k.To else if str_eq_ignore_ascii_case text (codes "TO") then Some k.To else (
-    if str_eq_ignore_ascii_case text (codes "STEP") then Some k.Step else if str_eq_ignore_ascii_case text (codes "STEP") then Some k.Step else (
-    if str_eq_ignore_ascii_case text (codes "NEXT") then Some k.Next else if str_eq_ignore_ascii_case text (codes "NEXT") then Some k.Next else (
-    if str_eq_ignore_ascii_case text (codes "DO") then Some k.Do else if str_eq_ignore_ascii_case text (codes "DO") then Some k.Do else (
-    if str_eq_ignore_ascii_case text (codes "LOOP") then Some k.Loop else if str_eq_ignore_ascii_case text (codes "LOOP") then Some k.Loop else (
-    if str_eq_ignore_ascii_case text (codes "WHILE") then Some k.While else if str_eq_ignore_ascii_case text (codes "WHILE") then Some k.While else (
+    if str_eq_ignore_ascii_case text (codes "IF") then Some k.If else (
+    if str_eq_ignore_ascii_case text (codes "THEN") then Some k.Then else (
+    if str_eq_ignore_ascii_case text (codes "ELSEIF") then Some k.Elseif else (
+    if str_eq_ignore_ascii_case text (codes "ELSE") then Some k.Else else (
+    if str_eq_ignore_ascii_case text (codes "FOR") then Some k.For else (
+    if str_eq_ignore_ascii_case text (codes "TO") then Some k.To else (
+    if str_eq_ignore_ascii_case text (codes "STEP") then Some k.Step else (
+    if str_eq_ignore_ascii_case text (codes "NEXT") then Some k.Next else (
+    if str_eq_ignore_ascii_case text (codes "DO") then Some k.Do else (
+    if str_eq_ignore_ascii_case text (codes "LOOP") then Some k.Loop else (
+    if str_eq_ignore_ascii_case text (codes "WHILE") then Some k.While else (
     if str_eq_ignore_ascii_case text (codes "UNTIL") then Some k.Until else None)))))))))))
 
 -- the words of choices, handlers and ends
 abbrev pub block_word : List ℕ → Option Keyword
 block_word text =
-    if str_eq_ignore_ascii_case text (codes "END") then Some k.End else if str_eq_ignore_ascii_case text (codes "END") then Some k.End else (
-    if str_eq_ignore_ascii_case text (codes "SELECT") then Some k.Select else if str_eq_ignore_ascii_case text (codes "SELECT") then Some k.Select else (
-    if str_eq_ignore_ascii_case text (codes "CASE") then Some k.Case else if str_eq_ignore_ascii_case text (codes "CASE") then Some k.Case else (
-    if str_eq_ignore_ascii_case text (codes "IS") then Some k.Is else if str_eq_ignore_ascii_case text (codes "IS") then Some k.Is else (
-    if str_eq_ignore_ascii_case text (codes "WHEN") then Some k.When else if str_eq_ignore_ascii_case text (codes "WHEN") then Some k.When else (
-    if str_eq_ignore_ascii_case text (codes "EXCEPTION") then Some k.Exception else if str_eq_ignore_ascii_case text (codes "EXCEPTION") then Some k.Exception else (
-    if str_eq_ignore_ascii_case text (codes "IN") then Some k.In else if str_eq_ignore_ascii_case text (codes "IN") then Some k.In else (
-    if str_eq_ignore_ascii_case text (codes "USE") then Some k.Use else if str_eq_ignore_ascii_case text (codes "USE") then Some k.Use else (
+    if str_eq_ignore_ascii_case text (codes "END") then Some k.End else (
+    if str_eq_ignore_ascii_case text (codes "SELECT") then Some k.Select else (
+    if str_eq_ignore_ascii_case text (codes "CASE") then Some k.Case else (
+    if str_eq_ignore_ascii_case text (codes "IS") then Some k.Is else (
+    if str_eq_ignore_ascii_case text (codes "WHEN") then Some k.When else (
+    if str_eq_ignore_ascii_case text (codes "EXCEPTION") then Some k.Exception else (
+    if str_eq_ignore_ascii_case text (codes "IN") then Some k.In else (
+    if str_eq_ignore_ascii_case text (codes "USE") then Some k.Use else (
     if str_eq_ignore_ascii_case text (codes "HANDLER") then Some k.Handler else None))))))))
 
 -- the words of procedures and units
 abbrev pub unit_word : List ℕ → Option Keyword
 unit_word text =
-    if str_eq_ignore_ascii_case text (codes "EXTERNAL") then Some k.External else if str_eq_ignore_ascii_case text (codes "EXTERNAL") then Some k.External else (
-    if str_eq_ignore_ascii_case text (codes "SUB") then Some k.Sub else if str_eq_ignore_ascii_case text (codes "SUB") then Some k.Sub else (
-    if str_eq_ignore_ascii_case text (codes "FUNCTION") then Some k.Function else if str_eq_ignore_ascii_case text (codes "FUNCTION") then Some k.Function else (
-    if str_eq_ignore_ascii_case text (codes "DEF") then Some k.Def else if str_eq_ignore_ascii_case text (codes "DEF") then Some k.Def else (
-    if str_eq_ignore_ascii_case text (codes "PROGRAM") then Some k.Program else if str_eq_ignore_ascii_case text (codes "PROGRAM") then Some k.Program else (
+    if str_eq_ignore_ascii_case text (codes "EXTERNAL") then Some k.External else (
+    if str_eq_ignore_ascii_case text (codes "SUB") then Some k.Sub else (
+    if str_eq_ignore_ascii_case text (codes "FUNCTION") then Some k.Function else (
+    if str_eq_ignore_ascii_case text (codes "DEF") then Some k.Def else (
+    if str_eq_ignore_ascii_case text (codes "PROGRAM") then Some k.Program else (
     if str_eq_ignore_ascii_case text (codes "MODULE") then Some k.Module else None)))))
 
 -- the words of declarations
 abbrev pub declaring_word : List ℕ → Option Keyword
 declaring_word text =
-    if str_eq_ignore_ascii_case text (codes "OPTION") then Some k.Option else if str_eq_ignore_ascii_case text (codes "OPTION") then Some k.Option else (
-    if str_eq_ignore_ascii_case text (codes "BASE") then Some k.Base else if str_eq_ignore_ascii_case text (codes "BASE") then Some k.Base else (
-    if str_eq_ignore_ascii_case text (codes "ARITHMETIC") then Some k.Arithmetic else if str_eq_ignore_ascii_case text (codes "ARITHMETIC") then Some k.Arithmetic else (
-    if str_eq_ignore_ascii_case text (codes "DECIMAL") then Some k.Decimal else if str_eq_ignore_ascii_case text (codes "DECIMAL") then Some k.Decimal else (
-    if str_eq_ignore_ascii_case text (codes "FIXED") then Some k.Fixed else if str_eq_ignore_ascii_case text (codes "FIXED") then Some k.Fixed else (
-    if str_eq_ignore_ascii_case text (codes "DIM") then Some k.Dim else if str_eq_ignore_ascii_case text (codes "DIM") then Some k.Dim else (
-    if str_eq_ignore_ascii_case text (codes "DECLARE") then Some k.Declare else if str_eq_ignore_ascii_case text (codes "DECLARE") then Some k.Declare else (
-    if str_eq_ignore_ascii_case text (codes "PUBLIC") then Some k.Public else if str_eq_ignore_ascii_case text (codes "PUBLIC") then Some k.Public else (
-    if str_eq_ignore_ascii_case text (codes "SHARE") then Some k.Share else if str_eq_ignore_ascii_case text (codes "SHARE") then Some k.Share else (
-    if str_eq_ignore_ascii_case text (codes "PRIVATE") then Some k.Private else if str_eq_ignore_ascii_case text (codes "PRIVATE") then Some k.Private else (
-    if str_eq_ignore_ascii_case text (codes "NUMERIC") then Some k.Numeric else if str_eq_ignore_ascii_case text (codes "NUMERIC") then Some k.Numeric else (
+    if str_eq_ignore_ascii_case text (codes "OPTION") then Some k.Option else (
+    if str_eq_ignore_ascii_case text (codes "BASE") then Some k.Base else (
+    if str_eq_ignore_ascii_case text (codes "ARITHMETIC") then Some k.Arithmetic else (
+    if str_eq_ignore_ascii_case text (codes "DECIMAL") then Some k.Decimal else (
+    if str_eq_ignore_ascii_case text (codes "FIXED") then Some k.Fixed else (
+    if str_eq_ignore_ascii_case text (codes "DIM") then Some k.Dim else (
+    if str_eq_ignore_ascii_case text (codes "DECLARE") then Some k.Declare else (
+    if str_eq_ignore_ascii_case text (codes "PUBLIC") then Some k.Public else (
+    if str_eq_ignore_ascii_case text (codes "SHARE") then Some k.Share else (
+    if str_eq_ignore_ascii_case text (codes "PRIVATE") then Some k.Private else (
+    if str_eq_ignore_ascii_case text (codes "NUMERIC") then Some k.Numeric else (
     if str_eq_ignore_ascii_case text (codes "STRING") then Some k.String else None)))))))))))
 
 -- the word that a text spells, in any case
