@@ -17,7 +17,6 @@ use Rattle.bas_expr.specs.Marks.{at_mark, colon}
 use Rattle.bas_expr.specs.Separated.{Behind}
 use Rattle.bas_expr.specs.Reading.{GoesExpr}
 use Rattle.bas_declaration.specs.declared.TheConstants.{LEVELS}
-use Rattle.bas_list.specs.Words.{Ends}
 use Rattle.bas_list.specs.Lists.{IsValues, IsTargets}
 use Rattle.bas_list.proofs.ListLaws.{values_longest, targets_longest}
 use Rattle.bas_record.specs.declared.word.Verb.{Verb}
@@ -93,7 +92,3 @@ module _ (tokens : List Lexeme) where
   pub record_statement_longest : ReadsLongest (length tokens) 1 (IsRecordStatement tokens) (GoesRecord tokens) (record_statement_at tokens)
   unfolding record_statement_at
   record_statement_longest = weaker (dispatched_longest (verb tokens) by_verb) (GoesRecord tokens) 1 (λ n g. g.1) (omega arith)
-
-  -- no statement goes on where a line may end
-  pub record_ends : (n : ℕ) → Ends tokens n → GoesRecord tokens n → ⊥
-  record_ends n ends goes = goes ends

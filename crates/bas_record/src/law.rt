@@ -1,9 +1,8 @@
 //! What follows from the grammar and its reader.
 
-ghost use Rattle.std.specs.Prelude.{ℕ, List, length};
+ghost use Rattle.std.specs.Prelude.{List, length};
 ghost use Rattle.bas_form.specs.Reader.{ReadsLongest};
 ghost use Rattle.bas_expr.specs.Lexemes.{Lexeme};
-ghost use Rattle.bas_list.specs.Words.{Ends};
 ghost use Rattle.bas_record.specs.Records.{IsRecordStatement, GoesRecord};
 ghost use Rattle.bas_record.specs.Recording.{record_statement_at};
 
@@ -11,10 +10,4 @@ ghost use Rattle.bas_record.specs.Recording.{record_statement_at};
 #[tactic(auto, using(crate::proofs::RecordLaws::record_statement_longest))]
 pub fn record_statement_law()
     ensures { (tokens : List Lexeme) → ReadsLongest (length tokens) 1 (IsRecordStatement tokens) (GoesRecord tokens) (record_statement_at tokens) }
-{}
-
-/// No statement goes on behind the last token, at a remark or at `ELSE`.
-#[tactic(auto, using(crate::proofs::RecordLaws::record_ends))]
-pub fn record_ends_law()
-    ensures { (tokens : List Lexeme) (n : ℕ) → Ends tokens n → GoesRecord tokens n → ⊥ }
 {}

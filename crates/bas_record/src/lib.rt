@@ -15,5 +15,5 @@ mod statement;
 mod tests;
 mod word;
 
-pub use law::{record_ends_law, record_statement_law};
+pub use law::record_statement_law;
 pub use statement::record_statement;
