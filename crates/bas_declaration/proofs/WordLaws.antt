@@ -1,9 +1,11 @@
 -- What stands at a place: of words, marks, numerals and quoted texts one at most.
-use Rattle.std.proofs.Common.{◌≡◌, ℕ, ◌<◌, inl, inr, List, length, Option, Some, None, IsSome, slice_get, refl}
+use Rattle.std.proofs.Common.{◌≡◌, ℕ, ◌<◌, inl, inr, Bool, true, false, List, length, Option, Some, None, IsSome, slice_get, refl, ap, ◌∙◌}
+use Rattle.std.specs.Str.{str_eq_ignore_ascii_case, str_to_ascii_lowercase}
+use Rattle.std.proofs.lemmas.Slice.Eq.{bytes_eq-Decides}
 use Rattle.bas_form.specs.Form.{Terminal}
 use Rattle.bas_form.specs.Element.{element_at, passing}
 use Rattle.bas_form.specs.Reader.{◌>>=◌, terminal, ReadsLongest, Begins}
-use Rattle.bas_form.proofs.ElementLaws.{element_inside}
+use Rattle.bas_form.proofs.ElementLaws.{element_inside, element_from}
 use Rattle.bas_form.proofs.ReaderLaws.{bound, some_is, terminal_longest, begun}
 use Rattle.bas_token.specs.declared.token.TokenKind.TheVariants as kind
 use Rattle.bas_ast.specs.declared.expression.Numeral.{Numeral}
@@ -17,7 +19,7 @@ use Rattle.bas_expr.specs.Testing.{GoesCond}
 use Rattle.bas_expr.proofs.MarkLaws.{goes_mark, mark_inside, is_connective}
 use Rattle.bas_declaration.specs.declared.keyword.Keyword.{Keyword}
 use Rattle.bas_declaration.specs.declared.keyword.Keyword.TheVariants as k
-use Rattle.bas_declaration.specs.Keywords.{keyword_of, keyword, at_word, is_word, else_word, in_word, use_word}
+use Rattle.bas_declaration.specs.Keywords.{keyword_of, keyword, at_word, same_word, spelling, spells, is_word, else_word, in_word, use_word}
 use Rattle.bas_declaration.specs.Digits.{of_numeral, digits_of_text, digits}
 use Rattle.bas_declaration.specs.Reading.{GoesLine}
 
@@ -63,6 +65,33 @@ read_kind read (Some (kind.Quoted, t)) x e = absurd (cc)
 read_kind read (Some (kind.Sign, t)) x e = absurd (cc)
 read_kind read (Some (kind.Remark, t)) x e = absurd (cc)
 
+mark_spelling : (wanted : List ℕ) (o : Option Lexeme) (x : Mark) → passing mark_of o ≡ Some x → passing (spelling wanted) o ≡ None
+mark_spelling wanted None x e = absurd (cc)
+mark_spelling wanted (Some (kind.Word, t)) x e = absurd (cc)
+mark_spelling wanted (Some (kind.Numeral, t)) x e = absurd (cc)
+mark_spelling wanted (Some (kind.Quoted, t)) x e = absurd (cc)
+mark_spelling wanted (Some (kind.Sign, t)) x e = refl
+mark_spelling wanted (Some (kind.Remark, t)) x e = absurd (cc)
+
+-- ---- by the text
+
+pub same_word_is : (wanted text : List ℕ) (u : Unit {0}) → same_word wanted text ≡ Some u → str_eq_ignore_ascii_case text wanted ≡ true
+same_word_is wanted text u e = by_value (str_eq_ignore_ascii_case text wanted) refl
+  where
+    by_value : (b : Bool) → str_eq_ignore_ascii_case text wanted ≡ b → str_eq_ignore_ascii_case text wanted ≡ true
+    by_value true eb = eb
+    by_value false eb = let f = rw eb at e in absurd (cc)
+
+pub lowered : (wanted text : List ℕ) → str_eq_ignore_ascii_case text wanted ≡ true → str_to_ascii_lowercase text ≡ str_to_ascii_lowercase wanted
+lowered wanted text e = (bytes_eq-Decides (str_to_ascii_lowercase text) (str_to_ascii_lowercase wanted)).0 e
+
+spelling_kind : (wanted : List ℕ) (token : Lexeme) (u : Unit {0}) → spelling wanted token ≡ Some u → (text : List ℕ) × (token ≡ (kind.Word, text)) × (str_eq_ignore_ascii_case text wanted ≡ true)
+spelling_kind wanted (kind.Word, text) u e = (text, refl, same_word_is wanted text u e)
+spelling_kind wanted (kind.Numeral, text) u e = absurd (cc)
+spelling_kind wanted (kind.Quoted, text) u e = absurd (cc)
+spelling_kind wanted (kind.Sign, text) u e = absurd (cc)
+spelling_kind wanted (kind.Remark, text) u e = absurd (cc)
+
 none_by : {A B : Type 0} (o : Option A) (f : A → Option B) → o ≡ None → (o >>= f) ≡ None
 none_by o f e = rw e refl
 
@@ -86,6 +115,18 @@ module _ (tokens : List Lexeme) where
   pub word_inside : {A : Type 0} (test : Keyword → Option A) (at : ℕ) (a : A) → at_word test tokens at ≡ Some a → at < length tokens
   word_inside test at a e = let b = bound (keyword tokens at) test a e in keyword_inside at b.0 b.1
 
+  pub spells_inside : (wanted : List ℕ) (at : ℕ) (u : Unit {0}) → spells wanted tokens at ≡ Some u → at < length tokens
+  unfolding spells
+  spells_inside wanted at u e = element_inside (spelling wanted) tokens at u e
+
+  -- the token at a place that spells a word
+  pub spells_stands : (wanted : List ℕ) (at : ℕ) (u : Unit {0}) → spells wanted tokens at ≡ Some u → (text : List ℕ) × (slice_get tokens at ≡ Some (kind.Word, text)) × (str_eq_ignore_ascii_case text wanted ≡ true)
+  unfolding spells
+  spells_stands wanted at u e =
+      let x = element_from (spelling wanted) tokens at u e in
+      let w = spelling_kind wanted x.0 u x.2 in
+      (w.0, x.1 ∙ ap (λ t. Some t) w.1, w.2)
+
   pub digits_inside : (at : ℕ) (x : ℕ) → digits tokens at ≡ Some x → at < length tokens
   unfolding digits
   digits_inside at x e = element_inside (of_numeral digits_of_text) tokens at x e
@@ -94,6 +135,10 @@ module _ (tokens : List Lexeme) where
     pub at_a_mark : (x : Mark) → mark tokens at ≡ Some x → keyword tokens at ≡ None
     unfolding mark keyword element_at
     at_a_mark x e = mark_kind (slice_get tokens at) x e
+
+    pub mark_no_spells : (wanted : List ℕ) (x : Mark) → mark tokens at ≡ Some x → spells wanted tokens at ≡ None
+    unfolding mark spells element_at
+    mark_no_spells wanted x e = mark_spelling wanted (slice_get tokens at) x e
 
     pub at_numeral : (x : Numeral) → numeral tokens at ≡ Some x → keyword tokens at ≡ None
     unfolding numeral keyword element_at

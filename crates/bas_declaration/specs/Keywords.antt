@@ -97,6 +97,22 @@ keyword tokens at = element_at keyword_of tokens at
 abbrev pub at_word : {A : Type 0} → (Keyword → Option A) → List Lexeme → ℕ → Option A
 at_word test tokens at = keyword tokens at >>= test
 
+-- whether a text is the word, in any case
+abbrev pub same_word : List ℕ → List ℕ → Option (Unit {0})
+same_word wanted text = if str_eq_ignore_ascii_case text wanted then Some tt else None
+
+-- whether a token is the word
+abbrev pub spelling : List ℕ → Lexeme → Option (Unit {0})
+spelling wanted (kind.Word, text) = same_word wanted text
+spelling wanted (kind.Numeral, text) = None
+spelling wanted (kind.Quoted, text) = None
+spelling wanted (kind.Sign, text) = None
+spelling wanted (kind.Remark, text) = None
+
+-- the very word at a place, which may be none of those with a meaning here
+unfoldable pub spells : List ℕ → List Lexeme → ℕ → Option (Unit {0})
+spells wanted tokens at = element_at (spelling wanted) tokens at
+
 abbrev pub then_word : Keyword → Option (Unit {0})
 then_word k.Then = Some tt
 then_word _ = None

@@ -199,6 +199,18 @@ pub fn word_at(line: &Source<'_>, at: usize) -> Option<Keyword>
     }
 }
 
+/// The word at a place, where it spells this text in any case.
+#[tactic(auto, unfolding(crate::specs::Keywords::spells, bas_form::specs::Element::element_at))]
+pub fn spells(line: &Source<'_>, at: usize, wanted: &[u8]) -> Option<()>
+    ensures value { result ≡ words.spells wanted.now line.now at }
+    ensures within { IfSome result (λ _. at < 4096) }
+{
+    match line.lexeme(at) {
+        Some((TokenKind::Word, text)) if text.eq_ignore_ascii_case(wanted) => Some(()),
+        _ => None,
+    }
+}
+
 /// The `THEN` at a place.
 pub fn then_word(line: &Source<'_>, at: usize) -> Option<()>
     ensures value { result ≡ words.at_word words.then_word line.now at }

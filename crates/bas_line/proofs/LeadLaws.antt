@@ -9,7 +9,7 @@ use Rattle.bas_token.specs.declared.token.TokenKind.TheVariants as kind
 use Rattle.bas_expr.specs.Lexemes.{Lexeme}
 use Rattle.bas_expr.specs.declared.word.Connective.{Connective}
 use Rattle.bas_expr.specs.Words.{connective_of_text}
-use Rattle.bas_declaration.specs.Keywords.{loop_word, block_word, unit_word, declaring_word, keyword_of_text, unless_connective, keyword_of, keyword}
+use Rattle.bas_declaration.specs.Keywords.{loop_word, block_word, unit_word, declaring_word, keyword_of_text, unless_connective, keyword_of, keyword, spelling, spells}
 use Rattle.bas_declaration.specs.Digits.{of_numeral}
 use Rattle.bas_list.specs.Words.{line_number_of_text, line_number, ending_of, ending, Ends}
 use Rattle.bas_record.specs.declared.word.Verb.{Verb as RecordVerb}
@@ -18,7 +18,6 @@ use Rattle.bas_record.specs.Words as rec
 use Rattle.bas_statement.specs.declared.verb.Verb.{Verb}
 use Rattle.bas_statement.specs.declared.verb.Verb.TheVariants as v
 use Rattle.bas_statement.specs.Verbs as verbs
-use Rattle.bas_line.specs.Words.{is_word, word}
 use Rattle.bas_line.proofs.SimpleLaws.{BeginsPlain}
 
 -- ---- the words
@@ -203,7 +202,7 @@ module _ (tokens : List Lexeme) (n : ℕ) where
   abbrev pub Stands : List ℕ → Type 0
   Stands text = slice_get tokens n ≡ Some (let token : Lexeme = (kind.Word, text) in token)
 
-  no_on : (text : List ℕ) → str_eq_ignore_ascii_case text (codes "ON") ≡ false → is_word (codes "ON") (kind.Word, text) ≡ None
+  no_on : (text : List ℕ) → str_eq_ignore_ascii_case text (codes "ON") ≡ false → spelling (codes "ON") (kind.Word, text) ≡ None
   no_on text e = rw e refl
 
   no_else : (text : List ℕ) → str_eq_ignore_ascii_case text (codes "ELSE") ≡ false → ending_of (kind.Word, text) ≡ None
@@ -214,10 +213,10 @@ module _ (tokens : List Lexeme) (n : ℕ) where
   no_end text st none (inr h) = let f = rw none at h in absurd (cc)
 
   begins_free : (text c : List ℕ) → Stands text → str_to_ascii_lowercase text ≡ str_to_ascii_lowercase c → IsFree c → BeginsPlain tokens n
-  unfolding keyword word line_number ending
+  unfolding keyword spells line_number ending
   begins_free text c st e free = (
     element_is keyword_of tokens n (kind.Word, text) st ∙ same_keyword text c e ∙ free.0,
-    element_is (is_word (codes "ON")) tokens n (kind.Word, text) st ∙ no_on text (same_test text c e (codes "ON") ∙ free.1),
+    element_is (spelling (codes "ON")) tokens n (kind.Word, text) st ∙ no_on text (same_test text c e (codes "ON") ∙ free.1),
     element_is (of_numeral line_number_of_text) tokens n (kind.Word, text) st,
     no_end text st (element_is ending_of tokens n (kind.Word, text) st ∙ no_else text (same_test text c e (codes "ELSE") ∙ free.2)),
   )

@@ -1,6 +1,5 @@
 -- Statements with a channel or a format end later than those with neither that begin at the same place.
-use Rattle.std.proofs.Common.{◌≡◌, ℕ, ◌+◌, ◌<◌, ◌≤◌, inl, inr, Bool, true, false, List, [], ◌∷◌, length, Option, Some, None, IsSome, codes, refl, sym, ◌∙◌, subst, arith}
-use Rattle.std.specs.Str.{str_eq_ignore_ascii_case}
+use Rattle.std.proofs.Common.{◌≡◌, ℕ, ◌+◌, ◌<◌, ◌≤◌, inl, inr, List, [], ◌∷◌, length, Option, Some, None, IsSome, codes, refl, sym, ◌∙◌, subst, arith}
 use Rattle.bas_form.specs.Form.{Terminal, ◌then◌, Optional, Repeated, ◌or◌, Built, ◌perhaps◌}
 use Rattle.bas_form.specs.Reader.{◌>>=◌, ReadsLongest}
 use Rattle.bas_form.proofs.ElementLaws.{element_from, element_is}
@@ -23,11 +22,13 @@ use Rattle.bas_expr.specs.Grammar.{Parenthesized}
 use Rattle.bas_expr.proofs.MarkLaws.{name_first, own_is}
 use Rattle.bas_expr.proofs.ExpressionLaws.{no_hash}
 use Rattle.bas_declaration.specs.declared.TheConstants.{LEVELS}
+use Rattle.bas_declaration.specs.Keywords.{spells}
 use Rattle.bas_declaration.specs.Parts.{E}
+use Rattle.bas_declaration.proofs.WordLaws.{same_word_is, spells_stands, mark_no_spells}
 use Rattle.bas_list.specs.Words.{separator_of, tab_of, tab_word, Ends}
 use Rattle.bas_list.specs.declared.TheConstants.{INNER_LEVELS}
 use Rattle.bas_list.specs.Lists.{Inner, IsTargets, IsPitem, IsNext, IsPlist, plist_of}
-use Rattle.bas_list.proofs.EndLaws.{spelled_is, other_word, mark_ends}
+use Rattle.bas_list.proofs.EndLaws.{other_word, mark_ends}
 use Rattle.bas_balance.specs.Balance.{BalancedIn, Balanced, Balances}
 use Rattle.bas_balance.proofs.BalanceLaws.{ArePlain, token_balanced, unmarked, joined, mark_balances, colon_balances, parenthesized_balances, then_balances, optional_balances, repeated_balances, or_balances, built_balances, behind_balances, deeper_balances, colon_ends}
 use Rattle.bas_balance.proofs.ExpressionBalance.{Passes, element_balances, expr_balances}
@@ -42,13 +43,13 @@ use Rattle.bas_record.proofs.ChoiceLaws.{over_longest}
 use Rattle.bas_record.proofs.RecordLaws.{record_statement_longest}
 use Rattle.bas_statement.specs.declared.verb.Verb.{Verb}
 use Rattle.bas_statement.specs.declared.verb.Verb.TheVariants as v
-use Rattle.bas_statement.specs.Verbs.{verb, verb_of_text, at_spelled}
+use Rattle.bas_statement.specs.Verbs.{verb, verb_of_text}
 use Rattle.bas_statement.specs.Statements.{IsPrompt, IsAsked, IsPrint, IsInput, IsLineInput, IsRead, StatementBy, IsStatement}
-use Rattle.bas_statement.proofs.GoesLaws.{at_a_mark, statement_ends}
+use Rattle.bas_statement.proofs.GoesLaws.{statement_ends}
 use Rattle.bas_statement.proofs.StatementLaws.{statement_longest}
 use Rattle.bas_line.specs.Plains.{IsPlain, plain_at}
 use Rattle.bas_line.proofs.SimpleLaws.{GoesPlain, BeginsPlain}
-use Rattle.bas_line.proofs.LeadLaws.{record_word, record_begins, statement_begins, both_verbs, spelled_stands}
+use Rattle.bas_line.proofs.LeadLaws.{record_word, record_begins, statement_begins, both_verbs}
 
 -- ---- marks and words
 
@@ -62,18 +63,11 @@ separator_plain m.Semicolon a e level = refl
 separator_plain _ a e level = absurd (cc)
 
 tab_passes : (token : Lexeme) (u : Unit {0}) → tab_of token ≡ Some u → Passes token
-tab_passes (kind.Word, text) u e = (other_word (codes "TAB") (codes "ELSE") text (spelled_is (codes "TAB") text u e) refl, refl)
+tab_passes (kind.Word, text) u e = (other_word (codes "TAB") (codes "ELSE") text (same_word_is (codes "TAB") text u e) refl, refl)
 tab_passes (kind.Numeral, text) u e = absurd (cc)
 tab_passes (kind.Quoted, text) u e = absurd (cc)
 tab_passes (kind.Sign, text) u e = absurd (cc)
 tab_passes (kind.Remark, text) u e = absurd (cc)
-
-using_text : (text : List ℕ) (u : Unit {0}) → rec.same_word (codes "USING") text ≡ Some u → str_eq_ignore_ascii_case text (codes "USING") ≡ true
-using_text text u e = by_value (str_eq_ignore_ascii_case text (codes "USING")) refl
-  where
-    by_value : (b : Bool) → str_eq_ignore_ascii_case text (codes "USING") ≡ b → str_eq_ignore_ascii_case text (codes "USING") ≡ true
-    by_value true eb = eb
-    by_value false eb = let f = rw eb at e in absurd (cc)
 
 module _ (tokens : List Lexeme) where
   none_some : {A : Type 0} (o : Option A) → o ≡ None → IsSome o → ⊥
@@ -125,13 +119,11 @@ module _ (tokens : List Lexeme) where
       (optional_balances 1 tokens (Terminal (semicolon tokens)) semicolon_balances)))
 
   -- the word USING is no mark and ends no statement
-  using_balanced : (n : ℕ) (u : Unit {0}) → rec.word (codes "USING") tokens n ≡ Some u → Balanced tokens n (n + 1)
-  unfolding rec.word
+  using_balanced : (n : ℕ) (u : Unit {0}) → spells (codes "USING") tokens n ≡ Some u → Balanced tokens n (n + 1)
   using_balanced n u e =
-      let b = bound (rec.spelled tokens n) (rec.same_word (codes "USING")) u e in
-      let st = spelled_stands tokens n b.0 b.1 in
-      let other = other_word (codes "USING") (codes "ELSE") b.0 (using_text b.0 u b.2) refl in
-      token_balanced tokens 0 n (kind.Word, b.0) st (λ level l. unmarked (kind.Word, b.0) other refl level)
+      let x = spells_stands tokens (codes "USING") n u e in
+      let other = other_word (codes "USING") (codes "ELSE") x.0 x.2 refl in
+      token_balanced tokens 0 n (kind.Word, x.0) x.1 (λ level l. unmarked (kind.Word, x.0) other refl level)
 
   no_earlier : (least at next : ℕ) → BalancedIn least tokens at next → at ≤ next
   no_earlier least at next b = let e = b.1 in omega arith
@@ -184,7 +176,7 @@ module _ (tokens : List Lexeme) where
       let parts = x.2 in
       let some = parts.1.0 in
       let z = hash_mark n h in
-      let none = at_a_mark tokens (codes "PROMPT") n z.0 z.1 in
+      let none = mark_no_spells tokens n (codes "PROMPT") z.0 z.1 in
       absurd (cc)
 
   -- ---- PRINT
@@ -211,7 +203,7 @@ module _ (tokens : List Lexeme) where
 
   using_later : (at : ℕ) (m : ℕ) (q : Expr × _) → IsUsing tokens at q m → at < m
   using_later at m q h =
-      let x = led (rec.word (codes "USING") tokens) (E tokens then Behind (at_mark colon tokens) (IsFormatted tokens)) at q m h in
+      let x = led (spells (codes "USING") tokens) (E tokens then Behind (at_mark colon tokens) (IsFormatted tokens)) at q m h in
       let both = x.2 in
       let e = no_earlier 0 (at + 1) both.0 (expr_balances tokens LEVELS (at + 1) q.0 both.0 both.1) in
       let f = no_earlier 1 both.0 m (behind_balances 1 tokens (at_mark colon tokens) (colon_balances tokens) (IsFormatted tokens) formatted_balances both.0 q.1 m both.2) in
@@ -219,7 +211,7 @@ module _ (tokens : List Lexeme) where
 
   using_over : (n : ℕ) (p : Plist) (k : ℕ) → IsPlist tokens n p k → (q : Expr × _) (m : ℕ) → IsUsing tokens n q m → IsEarlier k m
   using_over n p k list q m h =
-      let x = led (rec.word (codes "USING") tokens) (E tokens then Behind (at_mark colon tokens) (IsFormatted tokens)) n q m h in
+      let x = led (spells (codes "USING") tokens) (E tokens then Behind (at_mark colon tokens) (IsFormatted tokens)) n q m h in
       let both = x.2 in
       let word = using_balanced n x.0 x.1 in
       let front = joined tokens 0 n (n + 1) both.0 word (expr_balances tokens LEVELS (n + 1) q.0 both.0 both.1) in
@@ -261,10 +253,10 @@ module _ (tokens : List Lexeme) where
 
   line_input_apart : (n : ℕ) (a : Plain) (k : ℕ) → IsLineInput tokens n a k → (b : Plain) (m : ℕ) → IsRecordLineInput tokens n b m → ⊥
   line_input_apart n a k h b m g =
-      let x = led (verb tokens) (Behind (at_spelled (codes "INPUT") tokens) (IsAsked tokens)) n h.0 k h.2 in
-      let x2 = led (at_spelled (codes "INPUT") tokens) (IsAsked tokens) (n + 1) h.0 k x.2 in
-      let y = led (rec.verb tokens) (Behind (rec.word (codes "INPUT") tokens) (IsRecordInput tokens)) n g.0 m g.2 in
-      let y2 = led (rec.word (codes "INPUT") tokens) (IsRecordInput tokens) (n + 1) g.0 m y.2 in
+      let x = led (verb tokens) (Behind (spells (codes "INPUT") tokens) (IsAsked tokens)) n h.0 k h.2 in
+      let x2 = led (spells (codes "INPUT") tokens) (IsAsked tokens) (n + 1) h.0 k x.2 in
+      let y = led (rec.verb tokens) (Behind (spells (codes "INPUT") tokens) (IsRecordInput tokens)) n g.0 m g.2 in
+      let y2 = led (spells (codes "INPUT") tokens) (IsRecordInput tokens) (n + 1) g.0 m y.2 in
       let asked = x2.2 in
       let front = y2.2.1 in
       hash_no_asked (n + 1 + 1) (chan_hash (n + 1 + 1) g.0.0.0 front.0 front.1).0 h.0.0 h.0.1 asked.0 k asked.1 asked.2

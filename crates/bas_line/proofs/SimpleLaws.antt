@@ -18,17 +18,17 @@ use Rattle.bas_expr.proofs.MarkLaws.{goes_mark}
 use Rattle.bas_expr.proofs.ExpressionLaws.{expr_longest}
 use Rattle.bas_expr.proofs.ConditionLaws.{cond_longest}
 use Rattle.bas_declaration.specs.declared.TheConstants.{LEVELS}
-use Rattle.bas_declaration.specs.Keywords.{keyword, at_word, then_word}
+use Rattle.bas_declaration.specs.Keywords.{keyword, at_word, then_word, spells}
 use Rattle.bas_declaration.specs.Parts.{Listed}
-use Rattle.bas_declaration.proofs.WordLaws.{word_longest, mark_longest, past_cond, some_word}
+use Rattle.bas_declaration.proofs.WordLaws.{word_longest, spells_inside, mark_longest, past_cond, some_word}
 use Rattle.bas_declaration.proofs.PartLaws.{listed_longest}
 use Rattle.bas_list.specs.Words.{line_number, Ends}
 use Rattle.bas_line.specs.declared.jump.Jump.{Jump}
 use Rattle.bas_line.specs.declared.jump.Jump.TheVariants as jump
-use Rattle.bas_line.specs.Words.{word, if_word, LineEnds}
+use Rattle.bas_line.specs.Words.{if_word, LineEnds}
 use Rattle.bas_line.specs.Simples.{if_of, on_of, IsBranch, IsBranches, IsIf, IsJump, IsNumbers, IsOn, IsSimple}
 use Rattle.bas_line.specs.Reading.{behind_go, one_jump, next_number, number_list, one_branch, else_branch, branches, then_branches, if_line, else_plain, numbers, on_line, simple_at}
-use Rattle.bas_line.proofs.WordLaws.{word_inside, number_inside, words_apart, word_no_mark, on_no_keyword, else_ends, line_ends_at, line_end_ends, no_mark, no_keyword}
+use Rattle.bas_line.proofs.WordLaws.{number_inside, words_apart, word_no_mark, on_no_keyword, else_ends, line_ends_at, line_end_ends, no_mark, no_keyword}
 
 -- where a plain statement may go on
 abbrev pub GoesPlain : List Lexeme → ℕ → Type 0
@@ -40,21 +40,21 @@ GoesSimple tokens n = LineEnds tokens n → ⊥
 
 -- what stands where a plain statement begins: no word of a part or declaration, no ON, no number, and no end
 abbrev pub BeginsPlain : List Lexeme → ℕ → Type 0
-BeginsPlain tokens n = (keyword tokens n ≡ None) × (word (codes "ON") tokens n ≡ None) × (line_number tokens n ≡ None) × (Ends tokens n → ⊥)
+BeginsPlain tokens n = (keyword tokens n ≡ None) × (spells (codes "ON") tokens n ≡ None) × (line_number tokens n ≡ None) × (Ends tokens n → ⊥)
 
 module _ (tokens : List Lexeme) where
   pub plain_simple : (n : ℕ) → GoesPlain tokens n → GoesSimple tokens n
   plain_simple n g l = g (line_end_ends tokens n l)
 
-  no_else_by : (n : ℕ) (o : Option (Unit {0})) → word (codes "ELSE") tokens n ≡ o → GoesPlain tokens n → word (codes "ELSE") tokens n ≡ None
+  no_else_by : (n : ℕ) (o : Option (Unit {0})) → spells (codes "ELSE") tokens n ≡ o → GoesPlain tokens n → spells (codes "ELSE") tokens n ≡ None
   no_else_by n None e g = e
   no_else_by n (Some u) e g = absurd (g (else_ends tokens n u e))
 
   -- no ELSE stands where a plain statement may go on
-  no_else : (n : ℕ) → GoesPlain tokens n → word (codes "ELSE") tokens n ≡ None
-  no_else n g = no_else_by n (word (codes "ELSE") tokens n) refl g
+  no_else : (n : ℕ) → GoesPlain tokens n → spells (codes "ELSE") tokens n ≡ None
+  no_else n g = no_else_by n (spells (codes "ELSE") tokens n) refl g
 
-  else_goes : (n : ℕ) → IsSome (word (codes "ELSE") tokens n) → GoesSimple tokens n
+  else_goes : (n : ℕ) → IsSome (spells (codes "ELSE") tokens n) → GoesSimple tokens n
   else_goes n h l = let none = (line_ends_at tokens n l).0.4 (codes "ELSE") in let f = rw none at h in absurd (cc)
 
   comma_goes : (n : ℕ) → IsSome (at_mark comma tokens n) → GoesSimple tokens n
@@ -63,8 +63,8 @@ module _ (tokens : List Lexeme) where
   number_longest : ReadsLongest (length tokens) 1 (Terminal (line_number tokens)) (λ _. ⊥) (terminal (line_number tokens))
   number_longest = terminal_longest (length tokens) (line_number tokens) (number_inside tokens)
 
-  the_word : (wanted : List ℕ) → ReadsLongest (length tokens) 1 (Terminal (word wanted tokens)) (λ _. ⊥) (terminal (word wanted tokens))
-  the_word wanted = terminal_longest (length tokens) (word wanted tokens) (word_inside tokens wanted)
+  the_word : (wanted : List ℕ) → ReadsLongest (length tokens) 1 (Terminal (spells wanted tokens)) (λ _. ⊥) (terminal (spells wanted tokens))
+  the_word wanted = terminal_longest (length tokens) (spells wanted tokens) (spells_inside tokens wanted)
 
   module _ {A O : Type 0} {least : ℕ} {element : ℕ → Option O} (first : ReadsLongest (length tokens) 1 (Terminal element) (λ _. ⊥) (terminal element))
       {F : Form A} {GoesOn : ℕ → Type 0} {f : Reader A} (is : ReadsLongest (length tokens) least F GoesOn f) where
@@ -76,16 +76,16 @@ module _ (tokens : List Lexeme) where
 
   -- ---- where ON goes
 
-  go_to : ReadsLongest (length tokens) (1 + 1) (Built (λ (word : Unit {0}). jump.Goto) (Behind (word (codes "GO") tokens) (Terminal (word (codes "TO") tokens)))) (λ _. ⊥)
-      (built (λ (word : Unit {0}). jump.Goto) (behind (word (codes "GO") tokens) (terminal (word (codes "TO") tokens))))
+  go_to : ReadsLongest (length tokens) (1 + 1) (Built (λ (word : Unit {0}). jump.Goto) (Behind (spells (codes "GO") tokens) (Terminal (spells (codes "TO") tokens)))) (λ _. ⊥)
+      (built (λ (word : Unit {0}). jump.Goto) (behind (spells (codes "GO") tokens) (terminal (spells (codes "TO") tokens))))
   go_to = built_longest (λ (word : Unit {0}). jump.Goto) (led (the_word (codes "GO")) (the_word (codes "TO")))
 
-  go_sub : ReadsLongest (length tokens) (1 + 1) (Built (λ (word : Unit {0}). jump.Gosub) (Behind (word (codes "GO") tokens) (Terminal (word (codes "SUB") tokens)))) (λ _. ⊥)
-      (built (λ (word : Unit {0}). jump.Gosub) (behind (word (codes "GO") tokens) (terminal (word (codes "SUB") tokens))))
+  go_sub : ReadsLongest (length tokens) (1 + 1) (Built (λ (word : Unit {0}). jump.Gosub) (Behind (spells (codes "GO") tokens) (Terminal (spells (codes "SUB") tokens)))) (λ _. ⊥)
+      (built (λ (word : Unit {0}). jump.Gosub) (behind (spells (codes "GO") tokens) (terminal (spells (codes "SUB") tokens))))
   go_sub = built_longest (λ (word : Unit {0}). jump.Gosub) (led (the_word (codes "GO")) (the_word (codes "SUB")))
 
-  behind_apart : (n : ℕ) (a : Unit {0}) (k : ℕ) → Behind (word (codes "GO") tokens) (Terminal (word (codes "TO") tokens)) n a k → (b : Unit {0}) (m : ℕ) →
-      Behind (word (codes "GO") tokens) (Terminal (word (codes "SUB") tokens)) n b m → ⊥
+  behind_apart : (n : ℕ) (a : Unit {0}) (k : ℕ) → Behind (spells (codes "GO") tokens) (Terminal (spells (codes "TO") tokens)) n a k → (b : Unit {0}) (m : ℕ) →
+      Behind (spells (codes "GO") tokens) (Terminal (spells (codes "SUB") tokens)) n b m → ⊥
   behind_apart n a k h b m g =
       let x = h.2 in
       let y = g.2 in
@@ -100,23 +100,23 @@ module _ (tokens : List Lexeme) where
   no_goes n g h (inr x) = h n x
 
   behind_go_longest : ReadsLongest (length tokens) 1
-      (Built (λ (word : Unit {0}). jump.Goto) (Behind (word (codes "GO") tokens) (Terminal (word (codes "TO") tokens))) or Built (λ (word : Unit {0}). jump.Gosub) (Behind (word (codes "GO") tokens) (Terminal (word (codes "SUB") tokens))))
+      (Built (λ (word : Unit {0}). jump.Goto) (Behind (spells (codes "GO") tokens) (Terminal (spells (codes "TO") tokens))) or Built (λ (word : Unit {0}). jump.Gosub) (Behind (spells (codes "GO") tokens) (Terminal (spells (codes "SUB") tokens))))
       (λ _. ⊥) (behind_go tokens)
   unfolding behind_go
   behind_go_longest = weaker (either_longest go_to go_sub (λ n a k h b m g. behind_apart n h.0 k h.2 g.0 m g.2)) (λ _. ⊥) 1 (λ n g. elim g as (λ _. ⊥) [ inl z ↦ z | inr z ↦ z ]) (omega arith)
 
   go_first : (n : ℕ) (a : Jump) (k : ℕ) →
-      (Built (λ (word : Unit {0}). jump.Goto) (Behind (word (codes "GO") tokens) (Terminal (word (codes "TO") tokens))) or Built (λ (word : Unit {0}). jump.Gosub) (Behind (word (codes "GO") tokens) (Terminal (word (codes "SUB") tokens)))) n a k →
-      (u : Unit {0}) × (word (codes "GO") tokens n ≡ Some u)
+      (Built (λ (word : Unit {0}). jump.Goto) (Behind (spells (codes "GO") tokens) (Terminal (spells (codes "TO") tokens))) or Built (λ (word : Unit {0}). jump.Gosub) (Behind (spells (codes "GO") tokens) (Terminal (spells (codes "SUB") tokens)))) n a k →
+      (u : Unit {0}) × (spells (codes "GO") tokens n ≡ Some u)
   go_first n a k (inl h) = let body = h.2.2 in (_, body.1.0)
   go_first n a k (inr h) = let body = h.2.2 in (_, body.1.0)
 
-  gosub_apart : (n : ℕ) (a : Jump) (k : ℕ) → Built (λ (word : Unit {0}). jump.Gosub) (Terminal (word (codes "GOSUB") tokens)) n a k → (b : Jump) (m : ℕ) →
-      (Built (λ (word : Unit {0}). jump.Goto) (Behind (word (codes "GO") tokens) (Terminal (word (codes "TO") tokens))) or Built (λ (word : Unit {0}). jump.Gosub) (Behind (word (codes "GO") tokens) (Terminal (word (codes "SUB") tokens)))) n b m → ⊥
+  gosub_apart : (n : ℕ) (a : Jump) (k : ℕ) → Built (λ (word : Unit {0}). jump.Gosub) (Terminal (spells (codes "GOSUB") tokens)) n a k → (b : Jump) (m : ℕ) →
+      (Built (λ (word : Unit {0}). jump.Goto) (Behind (spells (codes "GO") tokens) (Terminal (spells (codes "TO") tokens))) or Built (λ (word : Unit {0}). jump.Gosub) (Behind (spells (codes "GO") tokens) (Terminal (spells (codes "SUB") tokens)))) n b m → ⊥
   gosub_apart n a k h b m g = let f = go_first n b m g in words_apart tokens (codes "GOSUB") (codes "GO") n h.0 f.0 (λ z. cc) h.2.0 f.1
 
-  goto_apart : (n : ℕ) (a : Jump) (k : ℕ) → Built (λ (word : Unit {0}). jump.Goto) (Terminal (word (codes "GOTO") tokens)) n a k → (b : Jump) (m : ℕ) →
-      (Built (λ (word : Unit {0}). jump.Gosub) (Terminal (word (codes "GOSUB") tokens)) or Built (λ (word : Unit {0}). jump.Goto) (Behind (word (codes "GO") tokens) (Terminal (word (codes "TO") tokens))) or Built (λ (word : Unit {0}). jump.Gosub) (Behind (word (codes "GO") tokens) (Terminal (word (codes "SUB") tokens)))) n b m → ⊥
+  goto_apart : (n : ℕ) (a : Jump) (k : ℕ) → Built (λ (word : Unit {0}). jump.Goto) (Terminal (spells (codes "GOTO") tokens)) n a k → (b : Jump) (m : ℕ) →
+      (Built (λ (word : Unit {0}). jump.Gosub) (Terminal (spells (codes "GOSUB") tokens)) or Built (λ (word : Unit {0}). jump.Goto) (Behind (spells (codes "GO") tokens) (Terminal (spells (codes "TO") tokens))) or Built (λ (word : Unit {0}). jump.Gosub) (Behind (spells (codes "GO") tokens) (Terminal (spells (codes "SUB") tokens)))) n b m → ⊥
   goto_apart n a k h b m (inl g) = words_apart tokens (codes "GOTO") (codes "GOSUB") n h.0 g.0 (λ z. cc) h.2.0 g.2.0
   goto_apart n a k h b m (inr g) = let f = go_first n b m g in words_apart tokens (codes "GOTO") (codes "GO") n h.0 f.0 (λ z. cc) h.2.0 f.1
 
@@ -126,7 +126,7 @@ module _ (tokens : List Lexeme) where
       (weaker (either_longest (built_longest (λ (word : Unit {0}). jump.Gosub) (the_word (codes "GOSUB"))) behind_go_longest gosub_apart) (λ _. ⊥) 1 (λ n g. elim g as (λ _. ⊥) [ inl z ↦ z | inr z ↦ z ]) (omega arith)) goto_apart)
       (λ _. ⊥) 1 (λ n g. elim g as (λ _. ⊥) [ inl z ↦ z | inr z ↦ z ]) (omega arith)
 
-  jump_word : (n : ℕ) (a : Jump) (k : ℕ) → IsJump tokens n a k → (wanted : List ℕ) × (u : Unit {0}) × (word wanted tokens n ≡ Some u)
+  jump_word : (n : ℕ) (a : Jump) (k : ℕ) → IsJump tokens n a k → (wanted : List ℕ) × (u : Unit {0}) × (spells wanted tokens n ≡ Some u)
   jump_word n a k (inl h) = (codes "GOTO", h.0, h.2.0)
   jump_word n a k (inr (inl h)) = (codes "GOSUB", h.0, h.2.0)
   jump_word n a k (inr (inr h)) = let f = go_first n a k h in (codes "GO", f.0, f.1)
@@ -154,15 +154,15 @@ module _ (tokens : List Lexeme) where
     branch_begins n a m (inl h) l = let none = (line_ends_at tokens n l).0.3 in let some = h.2.0 in absurd (cc)
     branch_begins n a m (inr h) l = (begins n h.0 m h.2).3 (line_end_ends tokens n l)
 
-    else_branch_longest : ReadsLongest (length tokens) (1 + 1) (Behind (word (codes "ELSE") tokens) (IsBranch tokens P)) (GoesPlain tokens) (else_branch tokens p)
+    else_branch_longest : ReadsLongest (length tokens) (1 + 1) (Behind (spells (codes "ELSE") tokens) (IsBranch tokens P)) (GoesPlain tokens) (else_branch tokens p)
     unfolding else_branch
     else_branch_longest = led (the_word (codes "ELSE")) branch_longest
 
-    else_branch_begins : (n : ℕ) → Begins (else_branch tokens p) n → IsSome (word (codes "ELSE") tokens n)
+    else_branch_begins : (n : ℕ) → Begins (else_branch tokens p) n → IsSome (spells (codes "ELSE") tokens n)
     unfolding else_branch
     else_branch_begins n h = led_begins (the_word (codes "ELSE")) branch_longest n h
 
-    else_apart : {A : Type 0} (F : Form A) (n : ℕ) → GoesPlain tokens n → (b : A) (m : ℕ) → Behind (word (codes "ELSE") tokens) F n b m → ⊥
+    else_apart : {A : Type 0} (F : Form A) (n : ℕ) → GoesPlain tokens n → (b : A) (m : ℕ) → Behind (spells (codes "ELSE") tokens) F n b m → ⊥
     else_apart F n g b m h = let none = no_else n g in let body = h.2 in let some = body.1.0 in absurd (cc)
 
     pub branches_longest : ReadsLongest (length tokens) 1 (IsBranches tokens P) (GoesSimple tokens) (branches tokens p)
@@ -181,15 +181,15 @@ module _ (tokens : List Lexeme) where
     unfolding if_line
     if_longest = weaker (built_longest if_of (led (word_longest tokens if_word) (then_longest (cond_longest tokens LEVELS) then_branches_longest before_then))) (GoesSimple tokens) 1 (λ n g. g) (omega arith)
 
-    else_plain_longest : ReadsLongest (length tokens) (1 + 1) (Behind (word (codes "ELSE") tokens) P) (GoesPlain tokens) (else_plain tokens p)
+    else_plain_longest : ReadsLongest (length tokens) (1 + 1) (Behind (spells (codes "ELSE") tokens) P) (GoesPlain tokens) (else_plain tokens p)
     unfolding else_plain
     else_plain_longest = led (the_word (codes "ELSE")) is
 
-    else_plain_begins : (n : ℕ) → Begins (else_plain tokens p) n → IsSome (word (codes "ELSE") tokens n)
+    else_plain_begins : (n : ℕ) → Begins (else_plain tokens p) n → IsSome (spells (codes "ELSE") tokens n)
     unfolding else_plain
     else_plain_begins n h = led_begins (the_word (codes "ELSE")) is n h
 
-    comma_apart : (n : ℕ) → IsSome (at_mark comma tokens n) → (b : Plain) (m : ℕ) → Behind (word (codes "ELSE") tokens) P n b m → ⊥
+    comma_apart : (n : ℕ) → IsSome (at_mark comma tokens n) → (b : Plain) (m : ℕ) → Behind (spells (codes "ELSE") tokens) P n b m → ⊥
     comma_apart n h b m g =
         let body = g.2 in
         let none = word_no_mark tokens (codes "ELSE") n _ body.1.0 in
@@ -217,7 +217,7 @@ module _ (tokens : List Lexeme) where
     pub if_first : (n : ℕ) (a : Simple) (k : ℕ) → IsIf tokens P n a k → IsSome (keyword tokens n)
     if_first n a k h = let front = h.2 in let body = front.2 in some_word tokens n if_word (some_is body.1.0)
 
-    pub on_first : (n : ℕ) (a : Simple) (k : ℕ) → IsOn tokens P n a k → (u : Unit {0}) × (word (codes "ON") tokens n ≡ Some u)
+    pub on_first : (n : ℕ) (a : Simple) (k : ℕ) → IsOn tokens P n a k → (u : Unit {0}) × (spells (codes "ON") tokens n ≡ Some u)
     on_first n a k h = let front = h.2 in let body = front.2 in (_, body.1.0)
 
     if_apart : (n : ℕ) (a : Simple) (k : ℕ) → IsIf tokens P n a k → (b : Simple) (m : ℕ) → IsOn tokens P n b m → ⊥

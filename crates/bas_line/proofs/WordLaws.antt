@@ -3,10 +3,9 @@ use Rattle.std.proofs.Common.{◌≡◌, ℕ, ◌<◌, ◌≤◌, inl, inr, ◌=
 use Rattle.std.specs.Char.{to_ascii_lowercase}
 use Rattle.std.specs.Str.{str_eq_ignore_ascii_case, str_to_ascii_lowercase}
 use Rattle.std.proofs.lemmas.Option.{slice_get_past}
-use Rattle.std.proofs.lemmas.Slice.Eq.{bytes_eq-Decides}
 use Rattle.bas_form.specs.Element.{element_at, passing}
 use Rattle.bas_form.specs.Reader.{◌>>=◌}
-use Rattle.bas_form.proofs.ElementLaws.{element_inside, element_from, element_is}
+use Rattle.bas_form.proofs.ElementLaws.{element_inside, element_is}
 use Rattle.bas_form.proofs.ReaderLaws.{same_some, some_is, value_of}
 use Rattle.bas_token.specs.declared.token.TokenKind.TheVariants as kind
 use Rattle.bas_expr.specs.declared.mark.Mark.{Mark}
@@ -14,24 +13,14 @@ use Rattle.bas_expr.specs.Lexemes.{Lexeme}
 use Rattle.bas_expr.specs.Marks.{mark_of, mark, at_mark}
 use Rattle.bas_expr.specs.Words.{connective_of, connective}
 use Rattle.bas_declaration.specs.declared.keyword.Keyword.{Keyword}
-use Rattle.bas_declaration.specs.Keywords.{loop_word, block_word, unit_word, declaring_word, keyword_of_text, keyword_of, keyword, at_word}
+use Rattle.bas_declaration.specs.Keywords.{loop_word, block_word, unit_word, declaring_word, keyword_of_text, keyword_of, keyword, at_word, spelling, spells}
 use Rattle.bas_declaration.specs.Digits.{of_numeral}
+use Rattle.bas_declaration.proofs.WordLaws.{lowered, spells_stands}
 use Rattle.bas_list.specs.Words.{line_number_of_text, line_number, ending_of, ending, Ends}
-use Rattle.bas_list.proofs.EndLaws.{spelled_is}
 use Rattle.bas_balance.proofs.ExpressionBalance.{two_words}
-use Rattle.bas_line.specs.Words.{is_word, word, behind_rem, rem_of, rem, exclaimed_of, exclaimed, LineEnds}
+use Rattle.bas_line.specs.Words.{behind_rem, rem_of, rem, exclaimed_of, exclaimed, LineEnds}
 
 -- ---- by the kind
-
-word_kind : (wanted : List ℕ) (token : Lexeme) (u : Unit {0}) → is_word wanted token ≡ Some u → (text : List ℕ) × (token ≡ (kind.Word, text)) × (str_eq_ignore_ascii_case text wanted ≡ true)
-word_kind wanted (kind.Word, text) u e = (text, refl, spelled_is wanted text u e)
-word_kind wanted (kind.Numeral, text) u e = absurd (cc)
-word_kind wanted (kind.Quoted, text) u e = absurd (cc)
-word_kind wanted (kind.Sign, text) u e = absurd (cc)
-word_kind wanted (kind.Remark, text) u e = absurd (cc)
-
-lowered : (wanted text : List ℕ) → str_eq_ignore_ascii_case text wanted ≡ true → str_to_ascii_lowercase text ≡ str_to_ascii_lowercase wanted
-lowered wanted text e = (bytes_eq-Decides (str_to_ascii_lowercase text) (str_to_ascii_lowercase wanted)).0 e
 
 on_loop : (text : List ℕ) → str_to_ascii_lowercase text ≡ codes "on" → loop_word text ≡ None
 on_loop text e = rw e refl
@@ -66,7 +55,7 @@ exclaimed_text text false b et eb u e = let f = rw et at e in absurd (cc)
 
 -- what no remark is
 abbrev pub NoOther : Option Lexeme → Type 0
-NoOther o = (passing mark_of o ≡ None) × (passing keyword_of o ≡ None) × (passing connective_of o ≡ None) × (passing (of_numeral line_number_of_text) o ≡ None) × ((wanted : List ℕ) → passing (is_word wanted) o ≡ None)
+NoOther o = (passing mark_of o ≡ None) × (passing keyword_of o ≡ None) × (passing connective_of o ≡ None) × (passing (of_numeral line_number_of_text) o ≡ None) × ((wanted : List ℕ) → passing (spelling wanted) o ≡ None)
 
 exclaimed_kind : (o : Option Lexeme) (u : Unit {0}) → passing exclaimed_of o ≡ Some u → NoOther o × ((passing rem_of o ≡ None) × (passing ending_of o ≡ Some tt))
 exclaimed_kind None u e = absurd (cc)
@@ -98,65 +87,54 @@ pub same_text : (s t : List ℕ) → one_word s ≡ one_word t → s ≡ t
 same_text s t e = ap (λ (l : Lexeme). l.1) (same_some e)
 
 module _ (tokens : List Lexeme) where
-  pub word_stands : (wanted : List ℕ) (at : ℕ) (u : Unit {0}) → word wanted tokens at ≡ Some u → (text : List ℕ) × (slice_get tokens at ≡ Some (kind.Word, text)) × (str_eq_ignore_ascii_case text wanted ≡ true)
-  unfolding word
-  word_stands wanted at u e =
-      let x = element_from (is_word wanted) tokens at u e in
-      let w = word_kind wanted x.0 u x.2 in
-      (w.0, x.1 ∙ ap (λ t. Some t) w.1, w.2)
-
-  pub word_inside : (wanted : List ℕ) (at : ℕ) (u : Unit {0}) → word wanted tokens at ≡ Some u → at < length tokens
-  unfolding word
-  word_inside wanted at u e = element_inside (is_word wanted) tokens at u e
-
   pub number_inside : (at n : ℕ) → line_number tokens at ≡ Some n → at < length tokens
   unfolding line_number
   number_inside at n e = element_inside (of_numeral line_number_of_text) tokens at n e
 
   -- one word at most stands at a place
-  pub words_apart : (one two : List ℕ) (at : ℕ) (u v : Unit {0}) → (str_to_ascii_lowercase one ≡ str_to_ascii_lowercase two → ⊥) → word one tokens at ≡ Some u → word two tokens at ≡ Some v → ⊥
+  pub words_apart : (one two : List ℕ) (at : ℕ) (u v : Unit {0}) → (str_to_ascii_lowercase one ≡ str_to_ascii_lowercase two → ⊥) → spells one tokens at ≡ Some u → spells two tokens at ≡ Some v → ⊥
   words_apart one two at u v other e d =
-      let x = word_stands one at u e in
-      let y = word_stands two at v d in
+      let x = spells_stands tokens one at u e in
+      let y = spells_stands tokens two at v d in
       let same = same_text x.0 y.0 (sym x.1 ∙ y.1) in
       other (two_words y.0 one two (rw (← same) x.2) y.2)
 
-  pub word_no_mark : (wanted : List ℕ) (at : ℕ) (u : Unit {0}) → word wanted tokens at ≡ Some u → mark tokens at ≡ None
+  pub word_no_mark : (wanted : List ℕ) (at : ℕ) (u : Unit {0}) → spells wanted tokens at ≡ Some u → mark tokens at ≡ None
   unfolding mark
-  word_no_mark wanted at u e = let x = word_stands wanted at u e in element_is mark_of tokens at (kind.Word, x.0) x.1
+  word_no_mark wanted at u e = let x = spells_stands tokens wanted at u e in element_is mark_of tokens at (kind.Word, x.0) x.1
 
-  pub word_no_number : (wanted : List ℕ) (at : ℕ) (u : Unit {0}) → word wanted tokens at ≡ Some u → line_number tokens at ≡ None
+  pub word_no_number : (wanted : List ℕ) (at : ℕ) (u : Unit {0}) → spells wanted tokens at ≡ Some u → line_number tokens at ≡ None
   unfolding line_number
-  word_no_number wanted at u e = let x = word_stands wanted at u e in element_is (of_numeral line_number_of_text) tokens at (kind.Word, x.0) x.1
+  word_no_number wanted at u e = let x = spells_stands tokens wanted at u e in element_is (of_numeral line_number_of_text) tokens at (kind.Word, x.0) x.1
 
-  pub on_no_keyword : (at : ℕ) (u : Unit {0}) → word (codes "ON") tokens at ≡ Some u → keyword tokens at ≡ None
+  pub on_no_keyword : (at : ℕ) (u : Unit {0}) → spells (codes "ON") tokens at ≡ Some u → keyword tokens at ≡ None
   unfolding keyword
-  on_no_keyword at u e = let x = word_stands (codes "ON") at u e in element_is keyword_of tokens at (kind.Word, x.0) x.1 ∙ on_text x.0 (lowered (codes "ON") x.0 x.2)
+  on_no_keyword at u e = let x = spells_stands tokens (codes "ON") at u e in element_is keyword_of tokens at (kind.Word, x.0) x.1 ∙ on_text x.0 (lowered (codes "ON") x.0 x.2)
 
   else_text : (text : List ℕ) → str_eq_ignore_ascii_case text (codes "ELSE") ≡ true → ending_of (kind.Word, text) ≡ Some tt
   else_text text e = rw e refl
 
-  pub else_ends : (at : ℕ) (u : Unit {0}) → word (codes "ELSE") tokens at ≡ Some u → Ends tokens at
+  pub else_ends : (at : ℕ) (u : Unit {0}) → spells (codes "ELSE") tokens at ≡ Some u → Ends tokens at
   unfolding ending
   else_ends at u e =
-      let x = word_stands (codes "ELSE") at u e in
+      let x = spells_stands tokens (codes "ELSE") at u e in
       inr (some_is (element_is ending_of tokens at (kind.Word, x.0) x.1 ∙ else_text x.0 x.2))
 
   -- ---- where the line ends
 
   abbrev pub Nothing : ℕ → Type 0
-  Nothing at = (mark tokens at ≡ None) × (keyword tokens at ≡ None) × (connective tokens at ≡ None) × (line_number tokens at ≡ None) × ((wanted : List ℕ) → word wanted tokens at ≡ None)
+  Nothing at = (mark tokens at ≡ None) × (keyword tokens at ≡ None) × (connective tokens at ≡ None) × (line_number tokens at ≡ None) × ((wanted : List ℕ) → spells wanted tokens at ≡ None)
 
   exclaimed_first : (at : ℕ) (u : Unit {0}) → exclaimed tokens at ≡ Some u → Nothing at × ((rem tokens at ≡ None) × (ending tokens at ≡ Some tt))
-  unfolding exclaimed mark keyword connective line_number word rem ending element_at
+  unfolding exclaimed mark keyword connective line_number spells rem ending element_at
   exclaimed_first at u e = exclaimed_kind (slice_get tokens at) u e
 
   pub rem_first : (at : ℕ) (bytes : List ℕ) → rem tokens at ≡ Some bytes → Nothing at × (ending tokens at ≡ Some tt)
-  unfolding mark keyword connective line_number word rem ending element_at
+  unfolding mark keyword connective line_number spells rem ending element_at
   rem_first at bytes e = rem_kind (slice_get tokens at) bytes e
 
   past_first : (at : ℕ) → length tokens ≤ at → Nothing at × (rem tokens at ≡ None)
-  unfolding mark keyword connective line_number word rem element_at
+  unfolding mark keyword connective line_number spells rem element_at
   past_first at l = nothing_there (slice_get tokens at) (slice_get_past tokens at l)
 
   -- nothing that an item is made of stands where the line ends

@@ -9,26 +9,26 @@ use Rattle.bas_ast.specs.declared.statement.Simple.TheVariants as simple
 use Rattle.bas_expr.specs.Lexemes.{Lexeme}
 use Rattle.bas_expr.specs.Marks.{at_mark, comma}
 use Rattle.bas_expr.specs.Separated.{behind}
-use Rattle.bas_declaration.specs.Keywords.{at_word, then_word}
+use Rattle.bas_declaration.specs.Keywords.{at_word, then_word, spells}
 use Rattle.bas_declaration.specs.Reading.{listed, e, c}
 use Rattle.bas_list.specs.Words.{line_number}
 use Rattle.bas_line.specs.declared.jump.Jump.{Jump}
 use Rattle.bas_line.specs.declared.jump.Jump.TheVariants as jump
-use Rattle.bas_line.specs.Words.{word, if_word}
+use Rattle.bas_line.specs.Words.{if_word}
 use Rattle.bas_line.specs.Simples.{if_of, on_of}
 
 module _ (tokens : List Lexeme) where
   -- the word behind GO
   unfoldable pub behind_go : Reader Jump
   behind_go =
-      either (built (λ (word : Unit {0}). jump.Goto) (behind (word (codes "GO") tokens) (terminal (word (codes "TO") tokens))))
-      (built (λ (word : Unit {0}). jump.Gosub) (behind (word (codes "GO") tokens) (terminal (word (codes "SUB") tokens))))
+      either (built (λ (word : Unit {0}). jump.Goto) (behind (spells (codes "GO") tokens) (terminal (spells (codes "TO") tokens))))
+      (built (λ (word : Unit {0}). jump.Gosub) (behind (spells (codes "GO") tokens) (terminal (spells (codes "SUB") tokens))))
 
   -- "GOTO" | "GOSUB"
   unfoldable pub one_jump : Reader Jump
   one_jump =
-      either (built (λ (word : Unit {0}). jump.Goto) (terminal (word (codes "GOTO") tokens)))
-      (either (built (λ (word : Unit {0}). jump.Gosub) (terminal (word (codes "GOSUB") tokens))) behind_go)
+      either (built (λ (word : Unit {0}). jump.Goto) (terminal (spells (codes "GOTO") tokens)))
+      (either (built (λ (word : Unit {0}). jump.Gosub) (terminal (spells (codes "GOSUB") tokens))) behind_go)
 
   -- "," number
   abbrev pub next_number : Reader ℕ
@@ -46,7 +46,7 @@ module _ (tokens : List Lexeme) (p : Reader Plain) where
 
   -- "ELSE" branch
   unfoldable pub else_branch : Reader Branch
-  else_branch = behind (word (codes "ELSE") tokens) one_branch
+  else_branch = behind (spells (codes "ELSE") tokens) one_branch
 
   -- branch [ "ELSE" branch ]
   unfoldable pub branches : Reader (Branch × Option Branch)
@@ -62,7 +62,7 @@ module _ (tokens : List Lexeme) (p : Reader Plain) where
 
   -- "ELSE" plain
   unfoldable pub else_plain : Reader Plain
-  else_plain = behind (word (codes "ELSE") tokens) p
+  else_plain = behind (spells (codes "ELSE") tokens) p
 
   -- number { "," number } [ "ELSE" plain ]
   unfoldable pub numbers : Reader (List ℕ × Option Plain)
@@ -70,7 +70,7 @@ module _ (tokens : List Lexeme) (p : Reader Plain) where
 
   -- "ON" expr ( "GOTO" | "GOSUB" ) numbers
   unfoldable pub on_line : Reader Simple
-  on_line = built on_of (behind (word (codes "ON") tokens) (e tokens followed_by (one_jump tokens followed_by numbers)))
+  on_line = built on_of (behind (spells (codes "ON") tokens) (e tokens followed_by (one_jump tokens followed_by numbers)))
 
   -- plain, or else one-line IF, or else ON
   unfoldable pub simple_at : Reader Simple

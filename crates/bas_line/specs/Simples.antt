@@ -10,12 +10,12 @@ use Rattle.bas_ast.specs.declared.statement.Simple.{Simple}
 use Rattle.bas_ast.specs.declared.statement.Simple.TheVariants as simple
 use Rattle.bas_expr.specs.Lexemes.{Lexeme}
 use Rattle.bas_expr.specs.Separated.{Behind}
-use Rattle.bas_declaration.specs.Keywords.{at_word, then_word}
+use Rattle.bas_declaration.specs.Keywords.{at_word, then_word, spells}
 use Rattle.bas_declaration.specs.Parts.{Listed, E, C}
 use Rattle.bas_list.specs.Words.{line_number}
 use Rattle.bas_line.specs.declared.jump.Jump.{Jump}
 use Rattle.bas_line.specs.declared.jump.Jump.TheVariants as jump
-use Rattle.bas_line.specs.Words.{word, if_word}
+use Rattle.bas_line.specs.Words.{if_word}
 
 -- ---- the trees that parts make
 
@@ -32,10 +32,10 @@ module _ (tokens : List Lexeme) where
   -- "GOTO" | "GOSUB", each of one word or of two
   abbrev pub IsJump : Form Jump
   IsJump =
-      Built (λ (word : Unit {0}). jump.Goto) (Terminal (word (codes "GOTO") tokens))
-      or Built (λ (word : Unit {0}). jump.Gosub) (Terminal (word (codes "GOSUB") tokens))
-      or Built (λ (word : Unit {0}). jump.Goto) (Behind (word (codes "GO") tokens) (Terminal (word (codes "TO") tokens)))
-      or Built (λ (word : Unit {0}). jump.Gosub) (Behind (word (codes "GO") tokens) (Terminal (word (codes "SUB") tokens)))
+      Built (λ (word : Unit {0}). jump.Goto) (Terminal (spells (codes "GOTO") tokens))
+      or Built (λ (word : Unit {0}). jump.Gosub) (Terminal (spells (codes "GOSUB") tokens))
+      or Built (λ (word : Unit {0}). jump.Goto) (Behind (spells (codes "GO") tokens) (Terminal (spells (codes "TO") tokens)))
+      or Built (λ (word : Unit {0}). jump.Gosub) (Behind (spells (codes "GO") tokens) (Terminal (spells (codes "SUB") tokens)))
 
 -- `P` is what a plain statement is.
 module _ (tokens : List Lexeme) (P : Form Plain) where
@@ -45,7 +45,7 @@ module _ (tokens : List Lexeme) (P : Form Plain) where
 
   -- branch [ "ELSE" branch ]
   abbrev pub IsBranches : Form (Branch × Option Branch)
-  IsBranches = IsBranch perhaps Behind (word (codes "ELSE") tokens) IsBranch
+  IsBranches = IsBranch perhaps Behind (spells (codes "ELSE") tokens) IsBranch
 
   -- "IF" cond "THEN" ( number | plain ) [ "ELSE" ( number | plain ) ]
   abbrev pub IsIf : Form Simple
@@ -53,11 +53,11 @@ module _ (tokens : List Lexeme) (P : Form Plain) where
 
   -- number { "," number } [ "ELSE" plain ]
   abbrev pub IsNumbers : Form (List ℕ × Option Plain)
-  IsNumbers = Listed tokens (Terminal (line_number tokens)) perhaps Behind (word (codes "ELSE") tokens) P
+  IsNumbers = Listed tokens (Terminal (line_number tokens)) perhaps Behind (spells (codes "ELSE") tokens) P
 
   -- "ON" expr ( "GOTO" | "GOSUB" ) number { "," number } [ "ELSE" plain ]
   abbrev pub IsOn : Form Simple
-  IsOn = Built on_of (Behind (word (codes "ON") tokens) (E tokens then (IsJump tokens then IsNumbers)))
+  IsOn = Built on_of (Behind (spells (codes "ON") tokens) (E tokens then (IsJump tokens then IsNumbers)))
 
   -- simple = plain | one-line IF | ON
   abbrev pub IsSimple : Form Simple

@@ -7,19 +7,6 @@ use Rattle.bas_text.specs.Trim.{as_space}
 use Rattle.bas_expr.specs.Lexemes.{Lexeme}
 use Rattle.bas_declaration.specs.declared.keyword.Keyword.{Keyword}
 use Rattle.bas_declaration.specs.declared.keyword.Keyword.TheVariants as k
-use Rattle.bas_list.specs.Words.{spelled}
-
--- whether a token is the word, in any case
-abbrev pub is_word : List ℕ → Lexeme → Option (Unit {0})
-is_word word (kind.Word, text) = spelled word text
-is_word word (kind.Numeral, text) = None
-is_word word (kind.Quoted, text) = None
-is_word word (kind.Sign, text) = None
-is_word word (kind.Remark, text) = None
-
--- the very word at a place
-unfoldable pub word : List ℕ → List Lexeme → ℕ → Option (Unit {0})
-word wanted tokens at = element_at (is_word wanted) tokens at
 
 -- "IF"
 abbrev pub if_word : Keyword → Option (Unit {0})

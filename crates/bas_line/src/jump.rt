@@ -4,8 +4,8 @@ ghost use Rattle.std.specs.Prelude.{◌≡◌, ◌∷◌, IfOk};
 ghost use Rattle.bas_declaration.specs.Reading.{all_with};
 ghost use Rattle.bas_line.specs.Reading as reading;
 
-use crate::word::word;
 use bas_base::{Line, Seq};
+use bas_declaration::keyword::spells;
 use bas_expr::source::Source;
 use bas_list::word::line_number;
 use std::alloc::{AllocError, Global};
@@ -22,14 +22,14 @@ pub enum Jump {
 fn behind_go(line: &Source<'_>, at: usize) -> Option<(Jump, usize)>
     ensures { result ≡ reading.behind_go line.now at }
 {
-    let Some(()) = word(line, at, b"GO") else {
+    let Some(()) = spells(line, at, b"GO") else {
         return None;
     };
     let at = at + 1;
-    if let Some(()) = word(line, at, b"TO") {
+    if let Some(()) = spells(line, at, b"TO") {
         return Some((Jump::Goto, at + 1));
     }
-    let Some(()) = word(line, at, b"SUB") else {
+    let Some(()) = spells(line, at, b"SUB") else {
         return None;
     };
     Some((Jump::Gosub, at + 1))
@@ -40,10 +40,10 @@ fn behind_go(line: &Source<'_>, at: usize) -> Option<(Jump, usize)>
 pub fn jump_words(line: &Source<'_>, at: usize) -> Option<(Jump, usize)>
     ensures { result ≡ reading.one_jump line.now at }
 {
-    if let Some(()) = word(line, at, b"GOTO") {
+    if let Some(()) = spells(line, at, b"GOTO") {
         return Some((Jump::Goto, at + 1));
     }
-    if let Some(()) = word(line, at, b"GOSUB") {
+    if let Some(()) = spells(line, at, b"GOSUB") {
         return Some((Jump::Gosub, at + 1));
     }
     behind_go(line, at)

@@ -7,11 +7,11 @@ ghost use Rattle.bas_line.specs.Simples as grammar;
 
 use crate::jump::{Jump, jump_words, number_list};
 use crate::plain::plain_statement;
-use crate::word::{if_word, word};
+use crate::word::if_word;
 use bas_ast::{Branch, Expr, Plain, Simple};
 use bas_base::{Line, Seq};
 use bas_declaration::LEVELS;
-use bas_declaration::keyword::then_word;
+use bas_declaration::keyword::{spells, then_word};
 use bas_expr::condition::cond;
 use bas_expr::expression::expr;
 use bas_expr::source::Source;
@@ -40,7 +40,7 @@ fn branch(alloc: Global, line: &Source<'_>, at: usize) -> Read<Branch>
 fn else_branch(alloc: Global, line: &Source<'_>, at: usize) -> Read<Branch>
     ensures { IfOk result (λ o. o ≡ reading.else_branch line.now (plain_at line.now) at) }
 {
-    let Some(()) = word(line, at, b"ELSE") else {
+    let Some(()) = spells(line, at, b"ELSE") else {
         return Ok(None);
     };
     let Some((other, after)) = branch(alloc, line, at + 1)? else {
@@ -99,7 +99,7 @@ fn if_line(alloc: Global, line: &Source<'_>, at: usize) -> Read<Simple>
 fn else_plain(alloc: Global, line: &Source<'_>, at: usize) -> Read<Plain>
     ensures { IfOk result (λ o. o ≡ reading.else_plain line.now (plain_at line.now) at) }
 {
-    let Some(()) = word(line, at, b"ELSE") else {
+    let Some(()) = spells(line, at, b"ELSE") else {
         return Ok(None);
     };
     let Some((other, after)) = plain_statement(alloc, line, at + 1)? else {
@@ -152,7 +152,7 @@ fn on(
 fn on_line(alloc: Global, line: &Source<'_>, at: usize) -> Read<Simple>
     ensures { IfOk result (λ o. o ≡ reading.on_line line.now (plain_at line.now) at) }
 {
-    let Some(()) = word(line, at, b"ON") else {
+    let Some(()) = spells(line, at, b"ON") else {
         return Ok(None);
     };
     let Some((value, after)) = expr(alloc, line, at + 1, LEVELS)? else {

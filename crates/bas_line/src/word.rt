@@ -12,18 +12,6 @@ use bas_expr::source::Source;
 use bas_token::TokenKind;
 use std::alloc::{AllocError, Global};
 
-/// The word at a place, in any case.
-#[tactic(auto, unfolding(crate::specs::Words::word, bas_form::specs::Element::element_at))]
-pub fn word(line: &Source<'_>, at: usize, wanted: &[u8]) -> Option<()>
-    ensures value { result ≡ words.word wanted.now line.now at }
-    ensures within { IfSome result (λ _. at < 4096) }
-{
-    match line.lexeme(at) {
-        Some((TokenKind::Word, text)) if text.eq_ignore_ascii_case(wanted) => Some(()),
-        _ => None,
-    }
-}
-
 /// The `IF` at a place.
 pub fn if_word(line: &Source<'_>, at: usize) -> Option<()>
     ensures value { result ≡ at_word words.if_word line.now at }

@@ -14,8 +14,10 @@ use Rattle.bas_expr.specs.Marks.{mark_of, mark, at_mark, comma, opening, sign_of
 use Rattle.bas_expr.specs.Words.{name_of_text, name_of, any_name, numeral_of_lexeme, numeral, quoted_of, quoted, connective_of_text, connective_of, connective}
 use Rattle.bas_expr.specs.Reading.{GoesExpr}
 use Rattle.bas_expr.proofs.MarkLaws.{goes_mark}
+use Rattle.bas_declaration.specs.Keywords.{same_word}
 use Rattle.bas_declaration.specs.Digits.{of_numeral}
-use Rattle.bas_list.specs.Words.{spelled, tab_of, tab_word, line_number_of_text, line_number, ending_of, ending, Ends}
+use Rattle.bas_declaration.proofs.WordLaws.{same_word_is}
+use Rattle.bas_list.specs.Words.{tab_of, tab_word, line_number_of_text, line_number, ending_of, ending, Ends}
 use Rattle.bas_list.specs.Reading.{GoesList}
 use Rattle.bas_list.proofs.FrontLaws.{Front}
 
@@ -24,13 +26,6 @@ pub other_word : (a b t : List ℕ) → str_eq_ignore_ascii_case t a ≡ true �
 other_word a b t is differs =
     let same = (bytes_eq-Decides (str_to_ascii_lowercase t) (str_to_ascii_lowercase a)).0 is in
     rw same differs
-
-pub spelled_is : (word t : List ℕ) (u : Unit {0}) → spelled word t ≡ Some u → str_eq_ignore_ascii_case t word ≡ true
-spelled_is word t u e = by_value (str_eq_ignore_ascii_case t word) refl
-  where
-    by_value : (b : Bool) → str_eq_ignore_ascii_case t word ≡ b → str_eq_ignore_ascii_case t word ≡ true
-    by_value true eb = eb
-    by_value false eb = let f = rw eb at e in absurd (cc)
 
 else_no_name : (t : List ℕ) (i : Bool) → is_name t ≡ i → str_eq_ignore_ascii_case t (codes "NOT") ≡ false → str_eq_ignore_ascii_case t (codes "ELSE") ≡ true → name_of_text t ≡ None
 else_no_name t true ei en e = rw (ei, en, e) refl
@@ -43,7 +38,7 @@ else_no_connective t e =
     let o = other_word (codes "ELSE") (codes "OR") t e refl in
     rw (n, a, o) refl
 
-else_no_tab : (t : List ℕ) → str_eq_ignore_ascii_case t (codes "ELSE") ≡ true → spelled (codes "TAB") t ≡ None
+else_no_tab : (t : List ℕ) → str_eq_ignore_ascii_case t (codes "ELSE") ≡ true → same_word (codes "TAB") t ≡ None
 else_no_tab t e = let n = other_word (codes "ELSE") (codes "TAB") t e refl in rw n refl
 
 -- none of the tokens that lists are made of
@@ -53,7 +48,7 @@ None5 o = (passing mark_of o ≡ None) × (passing numeral_of_lexeme o ≡ None)
 ends_kind : (o : Option Lexeme) (u : Unit {0}) → passing ending_of o ≡ Some u → None5 o
 ends_kind None u e = absurd (cc)
 ends_kind (Some (kind.Word, t)) u e =
-    let is = spelled_is (codes "ELSE") t u e in
+    let is = same_word_is (codes "ELSE") t u e in
     (refl, refl, refl, else_no_name t (is_name t) refl (other_word (codes "ELSE") (codes "NOT") t is refl) is, else_no_tab t is)
 ends_kind (Some (kind.Numeral, t)) u e = absurd (cc)
 ends_kind (Some (kind.Quoted, t)) u e = absurd (cc)
@@ -62,7 +57,7 @@ ends_kind (Some (kind.Remark, t)) u e = (refl, refl, refl, refl, refl)
 
 ends_other : (o : Option Lexeme) (u : Unit {0}) → passing ending_of o ≡ Some u → (passing connective_of o ≡ None) × (passing (of_numeral line_number_of_text) o ≡ None)
 ends_other None u e = absurd (cc)
-ends_other (Some (kind.Word, t)) u e = (else_no_connective t (spelled_is (codes "ELSE") t u e), refl)
+ends_other (Some (kind.Word, t)) u e = (else_no_connective t (same_word_is (codes "ELSE") t u e), refl)
 ends_other (Some (kind.Numeral, t)) u e = absurd (cc)
 ends_other (Some (kind.Quoted, t)) u e = absurd (cc)
 ends_other (Some (kind.Sign, t)) u e = absurd (cc)

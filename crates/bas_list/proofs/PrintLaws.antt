@@ -28,13 +28,13 @@ use Rattle.bas_expr.proofs.ExpressionLaws.{expr_longest}
 use Rattle.bas_declaration.specs.declared.TheConstants.{LEVELS}
 use Rattle.bas_declaration.specs.Parts.{E}
 use Rattle.bas_declaration.proofs.PartLaws.{enclosed_longest, an_expr}
-use Rattle.bas_declaration.proofs.WordLaws.{mark_longest}
+use Rattle.bas_declaration.proofs.WordLaws.{same_word_is, mark_longest}
 use Rattle.bas_list.specs.declared.TheConstants.{INNER_LEVELS}
 use Rattle.bas_list.specs.Words.{separator_of, tab_of, tab_word, Ends}
 use Rattle.bas_list.specs.Lists.{Inner, IsPitem, IsNext, IsPlist, plist_of}
 use Rattle.bas_list.specs.Reading.{enclosed_expr, tab_item, print_item, next_item, print_list, GoesPrint}
 use Rattle.bas_list.proofs.FrontLaws.{Front, expr_front}
-use Rattle.bas_list.proofs.EndLaws.{other_word, spelled_is, mark_ends, tab_ends, front_ends, expr_ends}
+use Rattle.bas_list.proofs.EndLaws.{other_word, mark_ends, tab_ends, front_ends, expr_ends}
 
 pub one_and_none : 1 ≤ 1 + 0
 one_and_none = omega arith
@@ -81,7 +81,7 @@ tab_no_name t false ei e = rw ei refl
 
 tab_kind : (o : Option Lexeme) (u : Unit {0}) → passing tab_of o ≡ Some u → (passing mark_of o ≡ None) × (passing numeral_of_lexeme o ≡ None) × (passing quoted_of o ≡ None) × (passing name_of o ≡ None)
 tab_kind None u e = absurd (cc)
-tab_kind (Some (kind.Word, t)) u e = (refl, refl, refl, tab_no_name t (is_name t) refl (spelled_is (codes "TAB") t u e))
+tab_kind (Some (kind.Word, t)) u e = (refl, refl, refl, tab_no_name t (is_name t) refl (same_word_is (codes "TAB") t u e))
 tab_kind (Some (kind.Numeral, t)) u e = absurd (cc)
 tab_kind (Some (kind.Quoted, t)) u e = absurd (cc)
 tab_kind (Some (kind.Sign, t)) u e = absurd (cc)

@@ -1,6 +1,5 @@
 -- The single tokens of lists, line numbers, and the tokens that end a statement.
 use Rattle.std.specs.Prelude.{ℕ, ◌≤◌, ◌⊎◌, ◌&&◌, nat_le, if◌then◌else◌, List, length, Option, Some, None, IsSome, codes}
-use Rattle.std.specs.Str.{str_eq_ignore_ascii_case}
 use Rattle.bas_form.specs.Reader.{◌>>=◌}
 use Rattle.bas_form.specs.Element.{element_at}
 use Rattle.bas_token.specs.declared.token.TokenKind.TheVariants as kind
@@ -10,6 +9,7 @@ use Rattle.bas_expr.specs.declared.mark.Mark.{Mark}
 use Rattle.bas_expr.specs.declared.mark.Mark.TheVariants as m
 use Rattle.bas_expr.specs.Lexemes.{Lexeme}
 use Rattle.bas_expr.specs.Marks.{mark_of_text}
+use Rattle.bas_declaration.specs.Keywords.{same_word}
 use Rattle.bas_declaration.specs.Digits.{digits_of_text, of_numeral}
 
 -- sep = "," | ";"
@@ -22,13 +22,9 @@ separator_of _ = None
 abbrev pub separator_of_text : List ℕ → Option Sep
 separator_of_text text = mark_of_text text >>= separator_of
 
--- whether a text is a word, in any case
-abbrev pub spelled : List ℕ → List ℕ → Option (Unit {0})
-spelled word text = if str_eq_ignore_ascii_case text word then Some tt else None
-
 -- "TAB"
 abbrev pub tab_of : Lexeme → Option (Unit {0})
-tab_of (kind.Word, text) = spelled (codes "TAB") text
+tab_of (kind.Word, text) = same_word (codes "TAB") text
 tab_of (kind.Numeral, text) = None
 tab_of (kind.Quoted, text) = None
 tab_of (kind.Sign, text) = None
@@ -52,7 +48,7 @@ line_number tokens at = element_at (of_numeral line_number_of_text) tokens at
 
 -- the tokens that end a statement: a remark, and the word ELSE
 abbrev pub ending_of : Lexeme → Option (Unit {0})
-ending_of (kind.Word, text) = spelled (codes "ELSE") text
+ending_of (kind.Word, text) = same_word (codes "ELSE") text
 ending_of (kind.Numeral, text) = None
 ending_of (kind.Quoted, text) = None
 ending_of (kind.Sign, text) = None

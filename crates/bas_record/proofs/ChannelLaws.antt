@@ -13,17 +13,18 @@ use Rattle.bas_expr.specs.Marks.{at_mark, comma, hash}
 use Rattle.bas_expr.specs.Separated.{Behind}
 use Rattle.bas_expr.specs.Reading.{GoesExpr}
 use Rattle.bas_expr.proofs.MarkLaws.{mark_inside}
+use Rattle.bas_declaration.specs.Keywords.{spells}
 use Rattle.bas_declaration.specs.Digits.{digits}
-use Rattle.bas_declaration.proofs.WordLaws.{digits_inside}
+use Rattle.bas_declaration.proofs.WordLaws.{spells_inside, digits_inside}
 use Rattle.bas_declaration.proofs.PartLaws.{an_expr, no_comma_past}
 use Rattle.bas_record.specs.declared.word.SetterWord.{SetterWord}
 use Rattle.bas_record.specs.declared.word.SetterWord.TheVariants as s
 use Rattle.bas_record.specs.declared.word.AttrWord.{AttrWord}
 use Rattle.bas_record.specs.declared.word.AttrWord.TheVariants as a
-use Rattle.bas_record.specs.Words.{word, setter_word, attr_word, organization, rectype, access, create, key_relation}
+use Rattle.bas_record.specs.Words.{setter_word, attr_word, organization, rectype, access, create, key_relation}
 use Rattle.bas_record.specs.Channels.{chan_of, key_of, IsChan, SetterAlone, SetterBy, IsSetter, AttrOf, AttrBy, IsAttr, IsNamed}
 use Rattle.bas_record.specs.Reading.{chan, setter_alone, record_setter, key_setter, setter_by, one_setter, attr_of, attr_by, one_attr, next_attr, named}
-use Rattle.bas_record.proofs.WordLaws.{led_longest, led_begins, led_one, led, word_inside, setter_word_inside, attr_word_inside, organization_inside, rectype_inside, access_inside, create_inside, key_relation_inside}
+use Rattle.bas_record.proofs.WordLaws.{led_longest, led_begins, led_one, led, setter_word_inside, attr_word_inside, organization_inside, rectype_inside, access_inside, create_inside, key_relation_inside}
 
 -- each turn of a list takes two tokens at least
 pub two : 1 ≤ 1 + 1
@@ -89,6 +90,6 @@ module _ (tokens : List Lexeme) where
 
   pub named_longest : ReadsLongest (length tokens) 1 (IsNamed tokens) GoesNamed (named tokens)
   unfolding named
-  named_longest = led_one (word (codes "NAME") tokens) (word_inside tokens (codes "NAME"))
+  named_longest = led_one (spells (codes "NAME") tokens) (spells_inside tokens (codes "NAME"))
       (weaker (repeating_longest (an_expr tokens) next_attr_longest two before_attr (λ n z b m h. z)) GoesNamed 1
       (λ n g. elim g as (λ _. GoesNamed n) [ inl d ↦ inl d | inr (inl z) ↦ absurd z | inr (inr d) ↦ inr (led_begins (at_mark comma tokens) (mark_inside tokens comma) attr_longest n d) ]) (omega arith))

@@ -13,17 +13,19 @@ use Rattle.bas_expr.specs.Marks.{at_mark, comma, colon}
 use Rattle.bas_expr.specs.Separated.{Behind}
 use Rattle.bas_expr.specs.Reading.{GoesExpr}
 use Rattle.bas_expr.proofs.MarkLaws.{mark_inside, stops, at_comma}
+use Rattle.bas_declaration.specs.Keywords.{spells}
+use Rattle.bas_declaration.proofs.WordLaws.{spells_inside}
 use Rattle.bas_declaration.proofs.PartLaws.{no_comma_past}
 use Rattle.bas_list.specs.Words.{line_number}
 use Rattle.bas_list.specs.Lists.{IsTargets}
 use Rattle.bas_list.specs.Reading.{GoesList}
 use Rattle.bas_list.proofs.EndLaws.{mark_ends, expr_ends, list_ends}
 use Rattle.bas_list.proofs.ListLaws.{targets_longest}
-use Rattle.bas_record.specs.Words.{word, miss_when, exit}
+use Rattle.bas_record.specs.Words.{miss_when, exit}
 use Rattle.bas_record.specs.Channels.{IsChan, IsSetter}
 use Rattle.bas_record.specs.Records.{miss_of, IsMissThen, IsMiss, IsPlace, IsInput, GoesRecord}
 use Rattle.bas_record.specs.Recording.{exit_loop, miss_then, then_part, miss, next_miss, next_setter, chan_and_setter, place, chan_and_miss, input}
-use Rattle.bas_record.proofs.WordLaws.{led_begins, led_one, led, word_inside, miss_when_inside, exit_inside, number_inside, number_no_word, if_no_setter}
+use Rattle.bas_record.proofs.WordLaws.{led_begins, led_one, led, miss_when_inside, exit_inside, number_inside, number_no_word, if_no_setter}
 use Rattle.bas_record.proofs.ChannelLaws.{chan_longest, setter_longest}
 
 pub one : 1 ≤ 1
@@ -43,29 +45,29 @@ module _ (tokens : List Lexeme) where
 
   -- ---- where to go
 
-  exit_longest : ReadsLongest (length tokens) 1 (Behind (word (codes "EXIT") tokens) (Terminal (exit tokens))) (λ _. ⊥) (exit_loop tokens)
+  exit_longest : ReadsLongest (length tokens) 1 (Behind (spells (codes "EXIT") tokens) (Terminal (exit tokens))) (λ _. ⊥) (exit_loop tokens)
   unfolding exit_loop
-  exit_longest = led_one (word (codes "EXIT") tokens) (word_inside tokens (codes "EXIT")) (terminal_longest (length tokens) (exit tokens) (exit_inside tokens))
+  exit_longest = led_one (spells (codes "EXIT") tokens) (spells_inside tokens (codes "EXIT")) (terminal_longest (length tokens) (exit tokens) (exit_inside tokens))
 
   number_longest : ReadsLongest (length tokens) 1 (Built goes.Number (Terminal (line_number tokens))) (λ _. ⊥) (built goes.Number (terminal (line_number tokens)))
   number_longest = built_longest goes.Number (terminal_longest (length tokens) (line_number tokens) (number_inside tokens))
 
-  exit_apart : (n : ℕ) (a : MissThen) (i : ℕ) → Behind (word (codes "EXIT") tokens) (Terminal (exit tokens)) n a i → (b : MissThen) (j : ℕ) → Built goes.Number (Terminal (line_number tokens)) n b j → ⊥
+  exit_apart : (n : ℕ) (a : MissThen) (i : ℕ) → Behind (spells (codes "EXIT") tokens) (Terminal (exit tokens)) n a i → (b : MissThen) (j : ℕ) → Built goes.Number (Terminal (line_number tokens)) n b j → ⊥
   exit_apart n a i h b j q =
-      let l = led (word (codes "EXIT") tokens) (Terminal (exit tokens)) n a i h in
+      let l = led (spells (codes "EXIT") tokens) (Terminal (exit tokens)) n a i h in
       number_no_word tokens (codes "EXIT") n q.0 l.0 q.2.0 l.1
 
   miss_then_longest : ReadsLongest (length tokens) 1 (IsMissThen tokens) (λ _. ⊥) (miss_then tokens)
   unfolding miss_then
   miss_then_longest = weaker (either_longest exit_longest number_longest exit_apart) (λ _. ⊥) 1 (λ n g. elim g as (λ _. ⊥) [ inl z ↦ z | inr z ↦ z ]) (omega arith)
 
-  then_part_longest : ReadsLongest (length tokens) 1 (Behind (word (codes "THEN") tokens) (IsMissThen tokens)) (λ _. ⊥) (then_part tokens)
+  then_part_longest : ReadsLongest (length tokens) 1 (Behind (spells (codes "THEN") tokens) (IsMissThen tokens)) (λ _. ⊥) (then_part tokens)
   unfolding then_part
-  then_part_longest = led_one (word (codes "THEN") tokens) (word_inside tokens (codes "THEN")) miss_then_longest
+  then_part_longest = led_one (spells (codes "THEN") tokens) (spells_inside tokens (codes "THEN")) miss_then_longest
 
   miss_longest : ReadsLongest (length tokens) 1 (IsMiss tokens) (λ _. ⊥) (miss tokens)
   unfolding miss
-  miss_longest = built_longest miss_of (led_one (word (codes "IF") tokens) (word_inside tokens (codes "IF"))
+  miss_longest = built_longest miss_of (led_one (spells (codes "IF") tokens) (spells_inside tokens (codes "IF"))
       (then_longest (terminal_longest (length tokens) (miss_when tokens) (miss_when_inside tokens)) then_part_longest (λ n z b m h. z)))
 
   -- ---- behind a comma
@@ -113,7 +115,7 @@ module _ (tokens : List Lexeme) where
       let by = front.2 in
       let l = led (at_mark comma tokens) (IsMiss tokens) n b m h in
       let body = l.2 in
-      let test = led (word (codes "IF") tokens) (Terminal (miss_when tokens) then Behind (word (codes "THEN") tokens) (IsMissThen tokens)) (n + 1) body.0 m body.2 in
+      let test = led (spells (codes "IF") tokens) (Terminal (miss_when tokens) then Behind (spells (codes "THEN") tokens) (IsMissThen tokens)) (n + 1) body.0 m body.2 in
       if_no_setter tokens (n + 1) by.0 test.0 by.1 test.1
 
   pub place_longest : ReadsLongest (length tokens) 1 (IsPlace tokens) (GoesList tokens) (place tokens)

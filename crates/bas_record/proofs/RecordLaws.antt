@@ -17,15 +17,17 @@ use Rattle.bas_expr.specs.Marks.{at_mark, colon}
 use Rattle.bas_expr.specs.Separated.{Behind}
 use Rattle.bas_expr.specs.Reading.{GoesExpr}
 use Rattle.bas_declaration.specs.declared.TheConstants.{LEVELS}
+use Rattle.bas_declaration.specs.Keywords.{spells}
+use Rattle.bas_declaration.proofs.WordLaws.{spells_inside}
 use Rattle.bas_list.specs.Lists.{IsValues, IsTargets}
 use Rattle.bas_list.proofs.ListLaws.{values_longest, targets_longest}
 use Rattle.bas_record.specs.declared.word.Verb.{Verb}
 use Rattle.bas_record.specs.declared.word.Verb.TheVariants as v
-use Rattle.bas_record.specs.Words.{word, verb}
+use Rattle.bas_record.specs.Words.{verb}
 use Rattle.bas_record.specs.Channels.{IsSetter, IsNamed}
 use Rattle.bas_record.specs.Records.{Place, IsPlace, IsLineInput, IsInputLine, IsOpen, IsClose, IsSet, IsRead, IsWritten, IsDelete, RecordBy, IsRecordStatement, GoesRecord}
 use Rattle.bas_record.specs.Recording.{line_input, input_line, open_line, close_line, set_line, read_line, written, written_line, delete_line, record_by, record_statement_at}
-use Rattle.bas_record.proofs.WordLaws.{led_one, word_inside}
+use Rattle.bas_record.proofs.WordLaws.{led_one}
 use Rattle.bas_record.proofs.ChannelLaws.{chan_longest, setter_longest, named_longest}
 use Rattle.bas_record.proofs.PlaceLaws.{expr_goes, list_goes, place_longest, input_longest, before_colon}
 use Rattle.bas_record.proofs.UsingLaws.{verb_then, colon_then, print_line_longest}
@@ -38,7 +40,7 @@ module _ (tokens : List Lexeme) where
   line_input_longest : ReadsLongest (length tokens) 1 (IsLineInput tokens) (GoesRecord tokens) (line_input tokens)
   unfolding line_input
   line_input_longest = built_longest (λ (p : (Chan × Option Miss) × Targets). plain.LineInputChan p.0.0 p.0.1 p.1)
-      (verb_then tokens (led_one (word (codes "INPUT") tokens) (word_inside tokens (codes "INPUT")) (input_longest tokens)))
+      (verb_then tokens (led_one (spells (codes "INPUT") tokens) (spells_inside tokens (codes "INPUT")) (input_longest tokens)))
 
   input_line_longest : ReadsLongest (length tokens) 1 (IsInputLine tokens) (GoesRecord tokens) (input_line tokens)
   unfolding input_line
@@ -56,8 +58,8 @@ module _ (tokens : List Lexeme) where
   set_longest : ReadsLongest (length tokens) 1 (IsSet tokens) (GoesRecord tokens) (set_line tokens)
   unfolding set_line
   set_longest = weaker (built_longest (λ (p : Chan × Setter). plain.SetPointer p.0 p.1)
-      (verb_then tokens (then_longest (chan_longest tokens) (colon_then tokens (led_one (word (codes "POINTER") tokens) (word_inside tokens (codes "POINTER")) (setter_longest tokens)))
-      (chan_colon (Behind (word (codes "POINTER") tokens) (IsSetter tokens)))))) (GoesRecord tokens) 1 (expr_goes tokens) (omega arith)
+      (verb_then tokens (then_longest (chan_longest tokens) (colon_then tokens (led_one (spells (codes "POINTER") tokens) (spells_inside tokens (codes "POINTER")) (setter_longest tokens)))
+      (chan_colon (Behind (spells (codes "POINTER") tokens) (IsSetter tokens)))))) (GoesRecord tokens) 1 (expr_goes tokens) (omega arith)
 
   read_longest : ReadsLongest (length tokens) 1 (IsRead tokens) (GoesRecord tokens) (read_line tokens)
   unfolding read_line

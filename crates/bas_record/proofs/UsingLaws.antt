@@ -16,7 +16,9 @@ use Rattle.bas_expr.specs.Separated.{Behind, behind}
 use Rattle.bas_expr.specs.Reading.{GoesExpr}
 use Rattle.bas_expr.proofs.MarkLaws.{mark_inside, stops, at_comma}
 use Rattle.bas_declaration.specs.declared.TheConstants.{LEVELS}
+use Rattle.bas_declaration.specs.Keywords.{spells}
 use Rattle.bas_declaration.specs.Parts.{E}
+use Rattle.bas_declaration.proofs.WordLaws.{spells_inside}
 use Rattle.bas_declaration.proofs.PartLaws.{an_expr, no_comma_past}
 use Rattle.bas_list.specs.Words.{separator_of}
 use Rattle.bas_list.specs.Lists.{IsPlist}
@@ -25,12 +27,12 @@ use Rattle.bas_list.proofs.FrontLaws.{expr_front}
 use Rattle.bas_list.proofs.EndLaws.{front_ends}
 use Rattle.bas_list.proofs.PrintLaws.{past_expr, print_list_longest, print_ends}
 use Rattle.bas_record.specs.declared.print.Formatted.{Formatted}
-use Rattle.bas_record.specs.Words.{word, verb}
+use Rattle.bas_record.specs.Words.{verb}
 use Rattle.bas_record.specs.Channels.{IsChan}
 use Rattle.bas_record.specs.Records.{only_semicolon, semicolon, formatted_of, print_using_of, IsPrintChan, IsChanComma, IsNextFormatted, IsRestFormatted, IsFormatted, IsUsing, IsPrintUsing, GoesRecord}
 use Rattle.bas_record.specs.Reading.{chan}
 use Rattle.bas_record.specs.Recording.{colon_list, print_chan, chan_comma, next_formatted, rest_formatted, formatted, using_part, print_using, print_line}
-use Rattle.bas_record.proofs.WordLaws.{led_begins, led_one, led, word_inside, verb_inside, mark_no_word}
+use Rattle.bas_record.proofs.WordLaws.{led_begins, led_one, led, verb_inside, mark_no_word}
 use Rattle.bas_record.proofs.ChannelLaws.{chan_longest}
 use Rattle.bas_record.proofs.PlaceLaws.{one, mark_goes, expr_goes, before_colon}
 use Rattle.bas_record.proofs.RestLaws.{rest_reads, rest_longest}
@@ -133,7 +135,7 @@ module _ (tokens : List Lexeme) where
 
   using_longest : ReadsLongest (length tokens) 1 (IsUsing tokens) (GoesRecord tokens) (using_part tokens)
   unfolding using_part
-  using_longest = led_one (word (codes "USING") tokens) (word_inside tokens (codes "USING"))
+  using_longest = led_one (spells (codes "USING") tokens) (spells_inside tokens (codes "USING"))
       (then_longest (an_expr tokens) (colon_then formatted_longest) (λ n g b m h. before_colon tokens (IsFormatted tokens) n (inl g) b m h))
 
   comma_longest : ReadsLongest (length tokens) 1 (Terminal (at_mark comma tokens)) (λ _. ⊥) (terminal (at_mark comma tokens))
@@ -151,7 +153,7 @@ module _ (tokens : List Lexeme) where
   chan_no_using : (n : ℕ) (a : Chan) (k : ℕ) → IsChan tokens n a k → (b : Expr × Formatted) (m : ℕ) → IsUsing tokens n b m → ⊥
   chan_no_using n a k h b m q =
       let c = chan_hash n a k h in
-      let l = led (word (codes "USING") tokens) (E tokens then Behind (at_mark colon tokens) (IsFormatted tokens)) n b m q in
+      let l = led (spells (codes "USING") tokens) (E tokens then Behind (at_mark colon tokens) (IsFormatted tokens)) n b m q in
       mark_no_word tokens hash (codes "USING") n c.0 l.0 c.1 l.1
 
   before_using : (n : ℕ) → (⊥ ⊎ Begins (chan_comma tokens) n) → (b : Expr × Formatted) (m : ℕ) → IsUsing tokens n b m → ⊥

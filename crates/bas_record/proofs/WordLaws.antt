@@ -1,11 +1,9 @@
 -- What stands at a place: of words, marks and numerals one at most, and where two words are the same.
-use Rattle.std.proofs.Common.{◌≡◌, ℕ, ◌+◌, ◌<◌, Bool, true, false, List, length, Option, Some, None, IsSome, slice_get, codes, refl, arith}
-use Rattle.std.specs.Str.{str_eq_ignore_ascii_case, str_to_ascii_lowercase}
-use Rattle.std.proofs.lemmas.Slice.Eq.{bytes_eq-Decides}
+use Rattle.std.proofs.Common.{◌≡◌, ℕ, ◌+◌, ◌<◌, List, length, Option, Some, None, IsSome, codes, refl, arith}
+use Rattle.std.specs.Str.{str_to_ascii_lowercase}
 use Rattle.bas_form.specs.Form.{Form}
-use Rattle.bas_form.specs.Element.{element_at, passing}
 use Rattle.bas_form.specs.Reader.{Reader, ReadsLongest, Begins}
-use Rattle.bas_form.proofs.ElementLaws.{element_inside}
+use Rattle.bas_form.proofs.ElementLaws.{element_inside, element_is}
 use Rattle.bas_form.proofs.ReaderLaws.{bound, some_is, terminal_longest, built_longest, weaker, begun}
 use Rattle.bas_form.proofs.SequenceLaws.{then_longest}
 use Rattle.bas_token.specs.declared.token.TokenKind.TheVariants as kind
@@ -17,15 +15,17 @@ use Rattle.bas_ast.specs.declared.record_statement.MissWhen.{MissWhen}
 use Rattle.bas_ast.specs.declared.record_statement.MissThen.{MissThen}
 use Rattle.bas_expr.specs.declared.mark.Mark.{Mark}
 use Rattle.bas_expr.specs.Lexemes.{Lexeme}
-use Rattle.bas_expr.specs.Marks.{mark_of, mark, at_mark}
+use Rattle.bas_expr.specs.Marks.{mark, at_mark}
 use Rattle.bas_expr.specs.Separated.{Behind, behind}
+use Rattle.bas_declaration.specs.Keywords.{spells}
 use Rattle.bas_declaration.specs.Digits.{of_numeral}
+use Rattle.bas_declaration.proofs.WordLaws.{lowered, spells_stands, mark_no_spells}
 use Rattle.bas_list.specs.Words.{line_number_of_text, line_number}
 use Rattle.bas_record.specs.declared.word.Verb.{Verb}
 use Rattle.bas_record.specs.declared.word.SetterWord.{SetterWord}
 use Rattle.bas_record.specs.declared.word.AttrWord.{AttrWord}
 use Rattle.bas_record.specs.declared.word.KeyRelation.{KeyRelation}
-use Rattle.bas_record.specs.Words.{word_of, spelled, read_word, same_word, word, verb_of_text, verb, setter_word_of_text, setter_word, attr_word_of_text, attr_word, organization_of_text, organization, rectype_of_text, rectype, access_of_text, access, create_of_text, create, miss_when_of_text, miss_when, exit_of_text, exit, key_relation_of, key_relation}
+use Rattle.bas_record.specs.Words.{word_of, spelled, read_word, verb_of_text, verb, setter_word_of_text, setter_word, attr_word_of_text, attr_word, organization_of_text, organization, rectype_of_text, rectype, access_of_text, access, create_of_text, create, miss_when_of_text, miss_when, exit_of_text, exit, key_relation_of, key_relation}
 
 -- ---- an element in front of a form
 
@@ -47,33 +47,6 @@ led {A = A} element F n a m h =
     let f : F (n + 1) h.0.1 m = rw (← body.1.1) body.2 in
     (h.0.0, body.1.0, rw h.1 f)
 
--- ---- by the kind
-
-mark_kind : (o : Option Lexeme) (x : Mark) → passing mark_of o ≡ Some x → passing word_of o ≡ None
-mark_kind None x e = absurd (cc)
-mark_kind (Some (kind.Word, t)) x e = absurd (cc)
-mark_kind (Some (kind.Numeral, t)) x e = absurd (cc)
-mark_kind (Some (kind.Quoted, t)) x e = absurd (cc)
-mark_kind (Some (kind.Sign, t)) x e = refl
-mark_kind (Some (kind.Remark, t)) x e = absurd (cc)
-
-number_kind : {A : Type 0} (read : List ℕ → Option A) (o : Option Lexeme) (x : A) → passing (of_numeral read) o ≡ Some x → passing word_of o ≡ None
-number_kind read None x e = absurd (cc)
-number_kind read (Some (kind.Word, t)) x e = absurd (cc)
-number_kind read (Some (kind.Numeral, t)) x e = refl
-number_kind read (Some (kind.Quoted, t)) x e = absurd (cc)
-number_kind read (Some (kind.Sign, t)) x e = absurd (cc)
-number_kind read (Some (kind.Remark, t)) x e = absurd (cc)
-
--- ---- by the text
-
-same_text : (wanted text : List ℕ) (b : Bool) → str_eq_ignore_ascii_case text wanted ≡ b → (u : Unit {0}) → same_word wanted text ≡ Some u → str_eq_ignore_ascii_case text wanted ≡ true
-same_text wanted text true eb u e = eb
-same_text wanted text false eb u e = let f = rw eb at e in absurd (cc)
-
-lowered : (wanted text : List ℕ) (u : Unit {0}) → same_word wanted text ≡ Some u → str_to_ascii_lowercase text ≡ str_to_ascii_lowercase wanted
-lowered wanted text u e = (bytes_eq-Decides (str_to_ascii_lowercase text) (str_to_ascii_lowercase wanted)).0 (same_text wanted text (str_eq_ignore_ascii_case text wanted) refl u e)
-
 if_no_setter_text : (text : List ℕ) → str_to_ascii_lowercase text ≡ codes "if" → setter_word_of_text text ≡ None
 if_no_setter_text text e = rw e refl
 
@@ -84,10 +57,6 @@ module _ (tokens : List Lexeme) where
 
   read_inside : {A : Type 0} (read : List ℕ → Option A) (at : ℕ) (a : A) → read_word read tokens at ≡ Some a → at < length tokens
   read_inside read at a e = let b = bound (spelled tokens at) read a e in spelled_inside at b.0 b.1
-
-  pub word_inside : (wanted : List ℕ) (at : ℕ) (u : Unit {0}) → word wanted tokens at ≡ Some u → at < length tokens
-  unfolding word
-  word_inside wanted at u e = read_inside (same_word wanted) at u e
 
   pub verb_inside : (at : ℕ) (x : Verb) → verb tokens at ≡ Some x → at < length tokens
   unfolding verb
@@ -133,37 +102,35 @@ module _ (tokens : List Lexeme) where
   unfolding line_number
   number_inside at x e = element_inside (of_numeral line_number_of_text) tokens at x e
 
-  no_word_by : {A : Type 0} (read : List ℕ → Option A) (at : ℕ) → spelled tokens at ≡ None → read_word read tokens at ≡ None
-  no_word_by read at e = rw e refl
-
-  mark_spelled : (at : ℕ) (x : Mark) → mark tokens at ≡ Some x → spelled tokens at ≡ None
-  unfolding mark spelled element_at
-  mark_spelled at x e = mark_kind (slice_get tokens at) x e
-
   -- no word stands at a mark
-  pub mark_no_word : {A : Type 0} (f : Mark → Option A) (wanted : List ℕ) (at : ℕ) (a : A) (u : Unit {0}) → at_mark f tokens at ≡ Some a → word wanted tokens at ≡ Some u → ⊥
-  unfolding word
+  pub mark_no_word : {A : Type 0} (f : Mark → Option A) (wanted : List ℕ) (at : ℕ) (a : A) (u : Unit {0}) → at_mark f tokens at ≡ Some a → spells wanted tokens at ≡ Some u → ⊥
   mark_no_word f wanted at a u e w =
       let b = bound (mark tokens at) f a e in
-      let none = no_word_by (same_word wanted) at (mark_spelled at b.0 b.1) in
+      let none = mark_no_spells tokens at wanted b.0 b.1 in
       absurd (cc)
 
-  number_spelled : (at : ℕ) (x : ℕ) → line_number tokens at ≡ Some x → spelled tokens at ≡ None
-  unfolding line_number spelled element_at
-  number_spelled at x e = number_kind line_number_of_text (slice_get tokens at) x e
+  no_number : (wanted : List ℕ) (at : ℕ) (u : Unit {0}) → spells wanted tokens at ≡ Some u → line_number tokens at ≡ None
+  unfolding line_number
+  no_number wanted at u e = let x = spells_stands tokens wanted at u e in element_is (of_numeral line_number_of_text) tokens at (kind.Word, x.0) x.1
 
   -- and none at a line number
-  pub number_no_word : (wanted : List ℕ) (at : ℕ) (x : ℕ) (u : Unit {0}) → line_number tokens at ≡ Some x → word wanted tokens at ≡ Some u → ⊥
-  unfolding word
+  pub number_no_word : (wanted : List ℕ) (at : ℕ) (x : ℕ) (u : Unit {0}) → line_number tokens at ≡ Some x → spells wanted tokens at ≡ Some u → ⊥
   number_no_word wanted at x u e w =
-      let none = no_word_by (same_word wanted) at (number_spelled at x e) in
+      let none = no_number wanted at u w in
       absurd (cc)
 
+  -- the text of a word that is known
+  text_spelled : (wanted : List ℕ) (at : ℕ) (u : Unit {0}) → spells wanted tokens at ≡ Some u → (text : List ℕ) × (spelled tokens at ≡ Some text) × (str_to_ascii_lowercase text ≡ str_to_ascii_lowercase wanted)
+  unfolding spelled
+  text_spelled wanted at u e =
+      let x = spells_stands tokens wanted at u e in
+      (x.0, element_is word_of tokens at (kind.Word, x.0) x.1, lowered wanted x.0 x.2)
+
   -- no setter begins with IF
-  pub if_no_setter : (at : ℕ) (w : SetterWord) (u : Unit {0}) → setter_word tokens at ≡ Some w → word (codes "IF") tokens at ≡ Some u → ⊥
-  unfolding word setter_word
+  pub if_no_setter : (at : ℕ) (w : SetterWord) (u : Unit {0}) → setter_word tokens at ≡ Some w → spells (codes "IF") tokens at ≡ Some u → ⊥
+  unfolding setter_word
   if_no_setter at w u es ew =
-      let b = bound (spelled tokens at) (same_word (codes "IF")) u ew in
-      let none = if_no_setter_text b.0 (lowered (codes "IF") b.0 u b.2) in
-      let f = rw b.1 at es in
+      let x = text_spelled (codes "IF") at u ew in
+      let none = if_no_setter_text x.0 x.2 in
+      let f = rw x.1 at es in
       absurd (cc)

@@ -10,6 +10,7 @@ use Rattle.bas_ast.specs.declared.record_statement.Attr.TheVariants as attr
 use Rattle.bas_expr.specs.Lexemes.{Lexeme}
 use Rattle.bas_expr.specs.Marks.{at_mark, comma, hash}
 use Rattle.bas_expr.specs.Separated.{Behind}
+use Rattle.bas_declaration.specs.Keywords.{spells}
 use Rattle.bas_declaration.specs.Digits.{digits}
 use Rattle.bas_declaration.specs.Parts.{E}
 use Rattle.bas_record.specs.declared.word.SetterWord.{SetterWord}
@@ -18,7 +19,7 @@ use Rattle.bas_record.specs.declared.word.AttrWord.{AttrWord}
 use Rattle.bas_record.specs.declared.word.AttrWord.TheVariants as a
 use Rattle.bas_record.specs.declared.word.KeyRelation.{KeyRelation}
 use Rattle.bas_record.specs.declared.word.KeyRelation.TheVariants as key
-use Rattle.bas_record.specs.Words.{word, setter_word, attr_word, organization, rectype, access, create, key_relation}
+use Rattle.bas_record.specs.Words.{setter_word, attr_word, organization, rectype, access, create, key_relation}
 
 -- ---- the trees that parts make
 
@@ -73,4 +74,4 @@ module _ (tokens : List Lexeme) where
 
   -- "NAME" expr { "," attr }
   abbrev pub IsNamed : Form (Expr × List Attr)
-  IsNamed = Behind (word (codes "NAME") tokens) (E tokens repeating Behind (at_mark comma tokens) IsAttr)
+  IsNamed = Behind (spells (codes "NAME") tokens) (E tokens repeating Behind (at_mark comma tokens) IsAttr)

@@ -10,13 +10,14 @@ use Rattle.bas_ast.specs.declared.record_statement.Attr.TheVariants as attr
 use Rattle.bas_expr.specs.Lexemes.{Lexeme}
 use Rattle.bas_expr.specs.Marks.{at_mark, comma, hash}
 use Rattle.bas_expr.specs.Separated.{behind}
+use Rattle.bas_declaration.specs.Keywords.{spells}
 use Rattle.bas_declaration.specs.Digits.{digits}
 use Rattle.bas_declaration.specs.Reading.{e}
 use Rattle.bas_record.specs.declared.word.SetterWord.{SetterWord}
 use Rattle.bas_record.specs.declared.word.SetterWord.TheVariants as s
 use Rattle.bas_record.specs.declared.word.AttrWord.{AttrWord}
 use Rattle.bas_record.specs.declared.word.AttrWord.TheVariants as a
-use Rattle.bas_record.specs.Words.{word, setter_word, attr_word, organization, rectype, access, create, key_relation}
+use Rattle.bas_record.specs.Words.{setter_word, attr_word, organization, rectype, access, create, key_relation}
 use Rattle.bas_record.specs.Channels.{chan_of, key_of}
 
 module _ (tokens : List Lexeme) where
@@ -60,4 +61,4 @@ module _ (tokens : List Lexeme) where
   next_attr = behind (at_mark comma tokens) one_attr
 
   unfoldable pub named : Reader (Expr × List Attr)
-  named = behind (word (codes "NAME") tokens) (e tokens followed_by repeated next_attr (length tokens))
+  named = behind (spells (codes "NAME") tokens) (e tokens followed_by repeated next_attr (length tokens))

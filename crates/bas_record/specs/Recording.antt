@@ -17,28 +17,29 @@ use Rattle.bas_expr.specs.Lexemes.{Lexeme}
 use Rattle.bas_expr.specs.Marks.{at_mark, comma, colon}
 use Rattle.bas_expr.specs.Separated.{behind}
 use Rattle.bas_declaration.specs.declared.TheConstants.{LEVELS}
+use Rattle.bas_declaration.specs.Keywords.{spells}
 use Rattle.bas_declaration.specs.Reading.{e}
 use Rattle.bas_list.specs.Words.{separator_of, line_number}
 use Rattle.bas_list.specs.Reading.{values, targets, print_list}
 use Rattle.bas_record.specs.declared.print.Formatted.{Formatted}
 use Rattle.bas_record.specs.declared.word.Verb.{Verb}
 use Rattle.bas_record.specs.declared.word.Verb.TheVariants as v
-use Rattle.bas_record.specs.Words.{word, verb, miss_when, exit}
+use Rattle.bas_record.specs.Words.{verb, miss_when, exit}
 use Rattle.bas_record.specs.Reading.{chan, one_setter, named}
 use Rattle.bas_record.specs.Records.{Place, semicolon, miss_of, formatted_of, print_using_of}
 
 module _ (tokens : List Lexeme) where
   unfoldable pub exit_loop : Reader MissThen
-  exit_loop = behind (word (codes "EXIT") tokens) (terminal (exit tokens))
+  exit_loop = behind (spells (codes "EXIT") tokens) (terminal (exit tokens))
 
   unfoldable pub miss_then : Reader MissThen
   miss_then = either exit_loop (built goes.Number (terminal (line_number tokens)))
 
   unfoldable pub then_part : Reader MissThen
-  then_part = behind (word (codes "THEN") tokens) miss_then
+  then_part = behind (spells (codes "THEN") tokens) miss_then
 
   unfoldable pub miss : Reader Miss
-  miss = built miss_of (behind (word (codes "IF") tokens) (terminal (miss_when tokens) followed_by then_part))
+  miss = built miss_of (behind (spells (codes "IF") tokens) (terminal (miss_when tokens) followed_by then_part))
 
   unfoldable pub next_miss : Reader Miss
   next_miss = behind (at_mark comma tokens) miss
@@ -77,7 +78,7 @@ module _ (tokens : List Lexeme) where
   formatted = built formatted_of (e tokens followed_by rest_formatted)
 
   unfoldable pub using_part : Reader (Expr × Formatted)
-  using_part = behind (word (codes "USING") tokens) (e tokens followed_by behind (at_mark colon tokens) formatted)
+  using_part = behind (spells (codes "USING") tokens) (e tokens followed_by behind (at_mark colon tokens) formatted)
 
   unfoldable pub print_using : Reader Plain
   print_using = built print_using_of (behind (verb tokens) (optional chan_comma followed_by using_part))
@@ -86,7 +87,7 @@ module _ (tokens : List Lexeme) where
   print_line = either print_using print_chan
 
   unfoldable pub line_input : Reader Plain
-  line_input = built (λ (p : (Chan × Option Miss) × Targets). plain.LineInputChan p.0.0 p.0.1 p.1) (behind (verb tokens) (behind (word (codes "INPUT") tokens) input))
+  line_input = built (λ (p : (Chan × Option Miss) × Targets). plain.LineInputChan p.0.0 p.0.1 p.1) (behind (verb tokens) (behind (spells (codes "INPUT") tokens) input))
 
   unfoldable pub input_line : Reader Plain
   input_line = built (λ (p : (Chan × Option Miss) × Targets). plain.InputChan p.0.0 p.0.1 p.1) (behind (verb tokens) input)
@@ -98,7 +99,7 @@ module _ (tokens : List Lexeme) where
   close_line = built plain.Close (behind (verb tokens) (chan tokens))
 
   unfoldable pub set_line : Reader Plain
-  set_line = built (λ (p : Chan × Setter). plain.SetPointer p.0 p.1) (behind (verb tokens) (chan tokens followed_by behind (at_mark colon tokens) (behind (word (codes "POINTER") tokens) (one_setter tokens))))
+  set_line = built (λ (p : Chan × Setter). plain.SetPointer p.0 p.1) (behind (verb tokens) (chan tokens followed_by behind (at_mark colon tokens) (behind (spells (codes "POINTER") tokens) (one_setter tokens))))
 
   unfoldable pub read_line : Reader Plain
   read_line = built (λ (p : Place × Targets). plain.ReadChan p.0.0.0 p.0.0.1 p.0.1 p.1) (behind (verb tokens) (place followed_by behind (at_mark colon tokens) (targets tokens)))

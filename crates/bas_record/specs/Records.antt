@@ -20,13 +20,14 @@ use Rattle.bas_expr.specs.Lexemes.{Lexeme}
 use Rattle.bas_expr.specs.Marks.{at_mark, comma, colon}
 use Rattle.bas_expr.specs.Separated.{Behind}
 use Rattle.bas_declaration.specs.declared.TheConstants.{LEVELS}
+use Rattle.bas_declaration.specs.Keywords.{spells}
 use Rattle.bas_declaration.specs.Parts.{E}
 use Rattle.bas_list.specs.Words.{separator_of, line_number, Ends}
 use Rattle.bas_list.specs.Lists.{IsValues, IsTargets, IsPlist}
 use Rattle.bas_record.specs.declared.print.Formatted.{Formatted}
 use Rattle.bas_record.specs.declared.word.Verb.{Verb}
 use Rattle.bas_record.specs.declared.word.Verb.TheVariants as v
-use Rattle.bas_record.specs.Words.{word, verb, miss_when, exit}
+use Rattle.bas_record.specs.Words.{verb, miss_when, exit}
 use Rattle.bas_record.specs.Channels.{IsChan, IsSetter, IsNamed}
 
 -- the separator, where it is a semicolon
@@ -64,11 +65,11 @@ Place = (Chan × Option Setter) × Option Miss
 module _ (tokens : List Lexeme) where
   -- "EXIT" "DO" | "EXIT" "FOR" | number
   abbrev pub IsMissThen : Form MissThen
-  IsMissThen = Behind (word (codes "EXIT") tokens) (Terminal (exit tokens)) or Built goes.Number (Terminal (line_number tokens))
+  IsMissThen = Behind (spells (codes "EXIT") tokens) (Terminal (exit tokens)) or Built goes.Number (Terminal (line_number tokens))
 
   -- miss = "IF" ( "MISSING" | "THERE" ) "THEN" ( "EXIT" "DO" | "EXIT" "FOR" | number )
   abbrev pub IsMiss : Form Miss
-  IsMiss = Built miss_of (Behind (word (codes "IF") tokens) (Terminal (miss_when tokens) then Behind (word (codes "THEN") tokens) IsMissThen))
+  IsMiss = Built miss_of (Behind (spells (codes "IF") tokens) (Terminal (miss_when tokens) then Behind (spells (codes "THEN") tokens) IsMissThen))
 
   -- chan [ "," setter ] [ "," miss ]
   abbrev pub IsPlace : Form ((Chan × Option Setter) × Option Miss)
@@ -100,7 +101,7 @@ module _ (tokens : List Lexeme) where
 
   -- "USING" expr ":" expr { sep expr } [ ";" ]
   abbrev pub IsUsing : Form (Expr × Formatted)
-  IsUsing = Behind (word (codes "USING") tokens) (E tokens then Behind (at_mark colon tokens) IsFormatted)
+  IsUsing = Behind (spells (codes "USING") tokens) (E tokens then Behind (at_mark colon tokens) IsFormatted)
 
   -- "PRINT" [ chan "," ] "USING" expr ":" expr { sep expr } [ ";" ]
   abbrev pub IsPrintUsing : Form Plain
@@ -108,7 +109,7 @@ module _ (tokens : List Lexeme) where
 
   -- "LINE" "INPUT" chan [ "," miss ] ":" targets
   abbrev pub IsLineInput : Form Plain
-  IsLineInput = Built (λ (p : (Chan × Option Miss) × Targets). plain.LineInputChan p.0.0 p.0.1 p.1) (Behind (verb tokens) (Behind (word (codes "INPUT") tokens) IsInput))
+  IsLineInput = Built (λ (p : (Chan × Option Miss) × Targets). plain.LineInputChan p.0.0 p.0.1 p.1) (Behind (verb tokens) (Behind (spells (codes "INPUT") tokens) IsInput))
 
   -- "INPUT" chan [ "," miss ] ":" targets
   abbrev pub IsInputLine : Form Plain
@@ -124,7 +125,7 @@ module _ (tokens : List Lexeme) where
 
   -- "SET" chan ":" "POINTER" setter
   abbrev pub IsSet : Form Plain
-  IsSet = Built (λ (p : Chan × Setter). plain.SetPointer p.0 p.1) (Behind (verb tokens) (IsChan tokens then Behind (at_mark colon tokens) (Behind (word (codes "POINTER") tokens) (IsSetter tokens))))
+  IsSet = Built (λ (p : Chan × Setter). plain.SetPointer p.0 p.1) (Behind (verb tokens) (IsChan tokens then Behind (at_mark colon tokens) (Behind (spells (codes "POINTER") tokens) (IsSetter tokens))))
 
   -- "READ" chan [ "," setter ] [ "," miss ] ":" targets
   abbrev pub IsRead : Form Plain

@@ -42,14 +42,6 @@ spelled tokens at = element_at word_of tokens at
 abbrev pub read_word : {A : Type 0} → (List ℕ → Option A) → List Lexeme → ℕ → Option A
 read_word read tokens at = spelled tokens at >>= read
 
--- whether a text is the word, in any case
-abbrev pub same_word : List ℕ → List ℕ → Option (Unit {0})
-same_word wanted text = if str_eq_ignore_ascii_case text wanted then Some tt else None
-
--- the very word at a place
-unfoldable pub word : List ℕ → List Lexeme → ℕ → Option (Unit {0})
-word wanted tokens at = read_word (same_word wanted) tokens at
-
 -- the words that statements on channels begin with
 abbrev pub verb_of_text : List ℕ → Option Verb
 verb_of_text text =

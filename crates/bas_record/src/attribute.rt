@@ -4,11 +4,12 @@ ghost use Rattle.std.specs.Prelude.{◌≡◌, length, IfOk};
 ghost use Rattle.bas_form.specs.Reader.{all_from};
 ghost use Rattle.bas_record.specs.Reading as reading;
 
-use crate::word::{AttrWord, access, attr_word, create, organization, rectype, word};
+use crate::word::{AttrWord, access, attr_word, create, organization, rectype};
 use bas_ast::{Attr, Expr};
 use bas_base::Seq;
 use bas_declaration::LEVELS;
 use bas_declaration::digits::digits;
+use bas_declaration::keyword::spells;
 use bas_expr::expression::expr;
 use bas_expr::source::Source;
 use std::alloc::{AllocError, Global};
@@ -67,7 +68,7 @@ fn more_attributes(
 pub fn named(alloc: Global, line: &Source<'_>, at: usize) -> Read<(Expr, Seq<Attr>)>
     ensures { IfOk result (λ o. o ≡ reading.named line.now at) }
 {
-    let Some(()) = word(line, at, b"NAME") else {
+    let Some(()) = spells(line, at, b"NAME") else {
         return Ok(None);
     };
     let Some((name, after)) = expr(alloc, line, at + 1, LEVELS)? else {

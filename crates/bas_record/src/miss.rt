@@ -4,8 +4,9 @@ ghost use Rattle.std.specs.Prelude.{◌≡◌, IfOk};
 ghost use Rattle.bas_record.specs.Recording as reading;
 
 use crate::channel::{channel, setter};
-use crate::word::{exit, miss_when, word};
+use crate::word::{exit, miss_when};
 use bas_ast::{Chan, Miss, MissThen, Setter};
+use bas_declaration::keyword::spells;
 use bas_expr::source::Source;
 use bas_list::word::line_number;
 use std::alloc::{AllocError, Global};
@@ -17,7 +18,7 @@ type Read<T> = Result<Option<(T, usize)>, AllocError>;
 fn exit_loop(line: &Source<'_>, at: usize) -> Option<(MissThen, usize)>
     ensures { result ≡ reading.exit_loop line.now at }
 {
-    let Some(()) = word(line, at, b"EXIT") else {
+    let Some(()) = spells(line, at, b"EXIT") else {
         return None;
     };
     let at = at + 1;
@@ -46,7 +47,7 @@ fn miss_then(line: &Source<'_>, at: usize) -> Option<(MissThen, usize)>
 fn then_part(line: &Source<'_>, at: usize) -> Option<(MissThen, usize)>
     ensures { result ≡ reading.then_part line.now at }
 {
-    let Some(()) = word(line, at, b"THEN") else {
+    let Some(()) = spells(line, at, b"THEN") else {
         return None;
     };
     let Some((goes, after)) = miss_then(line, at + 1) else {
@@ -60,7 +61,7 @@ fn then_part(line: &Source<'_>, at: usize) -> Option<(MissThen, usize)>
 fn miss_part(line: &Source<'_>, at: usize) -> Option<(Miss, usize)>
     ensures { result ≡ reading.miss line.now at }
 {
-    let Some(()) = word(line, at, b"IF") else {
+    let Some(()) = spells(line, at, b"IF") else {
         return None;
     };
     let at = at + 1;

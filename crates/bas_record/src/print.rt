@@ -6,10 +6,11 @@ ghost use Rattle.bas_record.specs.Records as grammar;
 ghost use Rattle.bas_record.specs.Recording as reading;
 
 use crate::channel::channel;
-use crate::word::{verb_at, word};
+use crate::word::verb_at;
 use bas_ast::{Chan, Expr, Plain, Plist, Sep};
 use bas_base::Seq;
 use bas_declaration::LEVELS;
+use bas_declaration::keyword::spells;
 use bas_expr::expression::expr;
 use bas_expr::source::Source;
 use bas_list::print_list;
@@ -167,7 +168,7 @@ fn formatted_part(alloc: Global, line: &Source<'_>, at: usize) -> Read<Formatted
 fn using_part(alloc: Global, line: &Source<'_>, at: usize) -> Read<(Expr, Formatted)>
     ensures { IfOk result (λ o. o ≡ reading.using_part line.now at) }
 {
-    let Some(()) = word(line, at, b"USING") else {
+    let Some(()) = spells(line, at, b"USING") else {
         return Ok(None);
     };
     let Some((format, at)) = expr(alloc, line, at + 1, LEVELS)? else {

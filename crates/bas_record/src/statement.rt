@@ -8,10 +8,11 @@ use crate::attribute::named;
 use crate::channel::{channel, setter};
 use crate::miss::{chan_and_miss, place};
 use crate::print::print_line;
-use crate::word::{Verb, verb_at, word};
+use crate::word::{Verb, verb_at};
 use bas_ast::{Chan, Expr, Miss, Plain, Setter, Targets};
 use bas_base::Seq;
 use bas_declaration::LEVELS;
+use bas_declaration::keyword::spells;
 use bas_expr::source::Source;
 use bas_list::{targets, values};
 use std::alloc::{AllocError, Global};
@@ -44,7 +45,7 @@ fn line_input(alloc: Global, line: &Source<'_>, at: usize) -> Read<Plain>
         return Ok(None);
     };
     let at = at + 1;
-    let Some(()) = word(line, at, b"INPUT") else {
+    let Some(()) = spells(line, at, b"INPUT") else {
         return Ok(None);
     };
     let Some((((chan, miss), targets), after)) = input(alloc, line, at + 1)? else {
@@ -116,7 +117,7 @@ fn set_line(alloc: Global, line: &Source<'_>, at: usize) -> Read<Plain>
         return Ok(None);
     };
     let at = at + 1;
-    let Some(()) = word(line, at, b"POINTER") else {
+    let Some(()) = spells(line, at, b"POINTER") else {
         return Ok(None);
     };
     let Some((setter, after)) = setter(alloc, line, at + 1)? else {

@@ -64,20 +64,6 @@ fn spelled<'a>(line: &Source<'a>, at: usize) -> Option<&'a [u8]>
     }
 }
 
-/// Whether the word stands at a place, in any case.
-#[tactic(auto, unfolding(crate::specs::Words::word))]
-pub fn word(line: &Source<'_>, at: usize, wanted: &[u8]) -> Option<()>
-    ensures value { result ≡ words.word wanted.now line.now at }
-    ensures within { IfSome result (λ _. at < 4096) }
-{
-    let text = spelled(line, at)?;
-    if text.eq_ignore_ascii_case(wanted) {
-        Some(())
-    } else {
-        None
-    }
-}
-
 /// The word at a place that begins a statement on a channel.
 #[tactic(auto, unfolding(crate::specs::Words::verb))]
 pub fn verb_at(line: &Source<'_>, at: usize) -> Option<Verb>

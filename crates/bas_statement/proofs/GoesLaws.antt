@@ -2,27 +2,27 @@
 use Rattle.std.proofs.Common.{◌≡◌, ℕ, ◌<◌, inl, inr, Bool, true, false, List, length, Option, Some, None, IsSome, slice_get, codes, refl, arith}
 use Rattle.std.specs.Str.{str_eq_ignore_ascii_case}
 use Rattle.std.proofs.lemmas.Option.{slice_get_within, slice_get_cases}
-use Rattle.bas_form.specs.Element.{element_at, passing}
+use Rattle.bas_form.specs.Element.{element_at}
 use Rattle.bas_form.specs.Form.{Terminal}
 use Rattle.bas_form.proofs.ElementLaws.{element_inside, element_from}
 use Rattle.bas_token.specs.declared.token.TokenKind.TheVariants as kind
-use Rattle.bas_expr.specs.declared.mark.Mark.{Mark}
 use Rattle.bas_expr.specs.Lexemes.{Lexeme}
-use Rattle.bas_expr.specs.Marks.{mark_of, mark}
 use Rattle.bas_expr.specs.Reading.{GoesExpr}
 use Rattle.bas_balance.specs.Balance.{is_end, Balances}
 use Rattle.bas_balance.proofs.ExpressionBalance.{Passes, element_balances}
+use Rattle.bas_declaration.specs.Keywords.{same_word, spelling, spells}
 use Rattle.bas_declaration.specs.Digits.{of_numeral}
-use Rattle.bas_list.specs.Words.{spelled, ending_of, ending, line_number_of_text, line_number, Ends}
+use Rattle.bas_declaration.proofs.WordLaws.{same_word_is}
+use Rattle.bas_list.specs.Words.{ending_of, ending, line_number_of_text, line_number, Ends}
 use Rattle.bas_list.specs.Reading.{GoesList, GoesPrint}
-use Rattle.bas_list.proofs.EndLaws.{other_word, spelled_is, expr_ends, list_ends}
+use Rattle.bas_list.proofs.EndLaws.{other_word, expr_ends, list_ends}
 use Rattle.bas_list.proofs.PrintLaws.{print_ends}
-use Rattle.bas_statement.specs.Verbs.{verb_of, verb, spelling, at_spelled}
+use Rattle.bas_statement.specs.Verbs.{verb_of, verb}
 use Rattle.bas_statement.specs.Reading.{GoesStatement}
 
 -- ---- an end is the same for both
 
-end_by : (t : List ℕ) (b : Bool) → str_eq_ignore_ascii_case t (codes "ELSE") ≡ b → b ≡ true → spelled (codes "ELSE") t ≡ Some tt
+end_by : (t : List ℕ) (b : Bool) → str_eq_ignore_ascii_case t (codes "ELSE") ≡ b → b ≡ true → same_word (codes "ELSE") t ≡ Some tt
 end_by t true eb e = rw eb refl
 end_by t false eb e = absurd (cc)
 
@@ -34,7 +34,7 @@ end_is_ending (kind.Sign, t) e = absurd (cc)
 end_is_ending (kind.Remark, t) e = refl
 
 ending_is_end : (x : Lexeme) (u : Unit {0}) → ending_of x ≡ Some u → is_end x ≡ true
-ending_is_end (kind.Word, t) u e = spelled_is (codes "ELSE") t u e
+ending_is_end (kind.Word, t) u e = same_word_is (codes "ELSE") t u e
 ending_is_end (kind.Numeral, t) u e = absurd (cc)
 ending_is_end (kind.Quoted, t) u e = absurd (cc)
 ending_is_end (kind.Sign, t) u e = absurd (cc)
@@ -43,7 +43,7 @@ ending_is_end (kind.Remark, t) u e = refl
 -- ---- one word
 
 spelling_passes : (word : List ℕ) → str_eq_ignore_ascii_case word (codes "ELSE") ≡ false → (x : Lexeme) (u : Unit {0}) → spelling word x ≡ Some u → Passes x
-spelling_passes word differs (kind.Word, t) u e = (other_word word (codes "ELSE") t (spelled_is word t u e) differs, refl)
+spelling_passes word differs (kind.Word, t) u e = (other_word word (codes "ELSE") t (same_word_is word t u e) differs, refl)
 spelling_passes word differs (kind.Numeral, t) u e = absurd (cc)
 spelling_passes word differs (kind.Quoted, t) u e = absurd (cc)
 spelling_passes word differs (kind.Sign, t) u e = absurd (cc)
@@ -56,43 +56,26 @@ number_passes (kind.Quoted, t) n e = absurd (cc)
 number_passes (kind.Sign, t) n e = absurd (cc)
 number_passes (kind.Remark, t) n e = absurd (cc)
 
-pub spelled_balances : (tokens : List Lexeme) (word : List ℕ) → str_eq_ignore_ascii_case word (codes "ELSE") ≡ false → Balances 0 tokens (Terminal (at_spelled word tokens))
-unfolding at_spelled
-spelled_balances tokens word differs = element_balances 0 tokens (spelling word) (spelling_passes word differs)
-
--- a mark is no word
-mark_no_word : (word : List ℕ) (o : Option Lexeme) (x : Mark) → passing mark_of o ≡ Some x → passing (spelling word) o ≡ None
-mark_no_word word None x e = absurd (cc)
-mark_no_word word (Some (kind.Word, t)) x e = absurd (cc)
-mark_no_word word (Some (kind.Numeral, t)) x e = absurd (cc)
-mark_no_word word (Some (kind.Quoted, t)) x e = absurd (cc)
-mark_no_word word (Some (kind.Sign, t)) x e = refl
-mark_no_word word (Some (kind.Remark, t)) x e = absurd (cc)
+pub spells_balances : (tokens : List Lexeme) (word : List ℕ) → str_eq_ignore_ascii_case word (codes "ELSE") ≡ false → Balances 0 tokens (Terminal (spells word tokens))
+unfolding spells
+spells_balances tokens word differs = element_balances 0 tokens (spelling word) (spelling_passes word differs)
 
 module _ (tokens : List Lexeme) where
   pub verb_inside : (at : ℕ) (x : _) → verb tokens at ≡ Some x → at < length tokens
   unfolding verb
   verb_inside at x e = element_inside verb_of tokens at x e
 
-  pub spelled_inside : (word : List ℕ) (at : ℕ) (u : Unit {0}) → at_spelled word tokens at ≡ Some u → at < length tokens
-  unfolding at_spelled
-  spelled_inside word at u e = element_inside (spelling word) tokens at u e
-
   pub number_inside : (at n : ℕ) → line_number tokens at ≡ Some n → at < length tokens
   unfolding line_number
   number_inside at n e = element_inside (of_numeral line_number_of_text) tokens at n e
-
-  pub at_a_mark : (word : List ℕ) (at : ℕ) (x : Mark) → mark tokens at ≡ Some x → at_spelled word tokens at ≡ None
-  unfolding mark at_spelled element_at
-  at_a_mark word at x e = mark_no_word word (slice_get tokens at) x e
 
   pub number_goes : (at n : ℕ) → line_number tokens at ≡ Some n → GoesStatement tokens at
   unfolding line_number
   number_goes at n e = let x = element_from (of_numeral line_number_of_text) tokens at n e in (x.0, x.1, (number_passes x.0 n x.2).0)
 
-  pub spelled_goes : (word : List ℕ) → str_eq_ignore_ascii_case word (codes "ELSE") ≡ false → (at : ℕ) (u : Unit {0}) → at_spelled word tokens at ≡ Some u → GoesStatement tokens at
-  unfolding at_spelled
-  spelled_goes word differs at u e = let x = element_from (spelling word) tokens at u e in (x.0, x.1, (spelling_passes word differs x.0 u x.2).0)
+  pub spells_goes : (word : List ℕ) → str_eq_ignore_ascii_case word (codes "ELSE") ≡ false → (at : ℕ) (u : Unit {0}) → spells word tokens at ≡ Some u → GoesStatement tokens at
+  unfolding spells
+  spells_goes word differs at u e = let x = element_from (spelling word) tokens at u e in (x.0, x.1, (spelling_passes word differs x.0 u x.2).0)
 
   module _ (n : ℕ) where
     ending_here : (x : Lexeme) → slice_get tokens n ≡ Some x → is_end x ≡ true → Ends tokens n

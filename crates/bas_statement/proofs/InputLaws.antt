@@ -18,15 +18,16 @@ use Rattle.bas_balance.proofs.BalanceLaws.{joined, comma_plain, mark_balances, s
 use Rattle.bas_balance.proofs.ExpressionBalance.{expr_balances, target_balances}
 use Rattle.bas_declaration.specs.declared.TheConstants.{LEVELS}
 use Rattle.bas_declaration.specs.Parts.{listed_of, Listed}
+use Rattle.bas_declaration.specs.Keywords.{spells}
+use Rattle.bas_declaration.proofs.WordLaws.{spells_inside}
 use Rattle.bas_declaration.proofs.PartLaws.{an_expr}
 use Rattle.bas_list.specs.declared.TheConstants.{INNER_LEVELS}
 use Rattle.bas_list.specs.Lists.{Inner, IsTargets, targets_of}
 use Rattle.bas_list.specs.Reading.{targets, GoesList}
 use Rattle.bas_list.proofs.ListLaws.{targets_longest}
-use Rattle.bas_statement.specs.Verbs.{at_spelled}
 use Rattle.bas_statement.specs.Statements.{IsPrompt, IsAsked}
 use Rattle.bas_statement.specs.Reading.{GoesStatement, prompted, unprompted, prompt, asked}
-use Rattle.bas_statement.proofs.GoesLaws.{spelled_inside, spelled_balances, list_goes}
+use Rattle.bas_statement.proofs.GoesLaws.{spells_balances, list_goes}
 
 -- ---- a form that may have another in front, which is tried first
 
@@ -110,7 +111,7 @@ module _ (tokens : List Lexeme) where
 
   prompt_longest : ReadsLongest (length tokens) (1 + (1 + 1)) (IsPrompt tokens) (λ _. ⊥) (prompt tokens)
   unfolding prompt
-  prompt_longest = between_longest (at_spelled (codes "PROMPT") tokens) (spelled_inside tokens (codes "PROMPT")) (at_mark colon tokens) (mark_inside tokens colon) (an_expr tokens) no_colon_past
+  prompt_longest = between_longest (spells (codes "PROMPT") tokens) (spells_inside tokens (codes "PROMPT")) (at_mark colon tokens) (mark_inside tokens colon) (an_expr tokens) no_colon_past
 
   both_longest : ReadsLongest (length tokens) (1 + (1 + 1) + 1) (IsPrompt tokens then IsTargets tokens) (GoesList tokens) (prompt tokens followed_by targets tokens)
   both_longest = then_longest prompt_longest (targets_longest tokens) (λ n z b k h. z)
@@ -120,7 +121,7 @@ module _ (tokens : List Lexeme) where
   prompt_colon at x next h =
       let body = h.2 in
       let rest = body.2 in
-      let word = spelled_balances tokens (codes "PROMPT") refl at h.0.0 body.0 body.1 in
+      let word = spells_balances tokens (codes "PROMPT") refl at h.0.0 body.0 body.1 in
       let value = expr_balances tokens LEVELS body.0 h.0.1.0 rest.0 rest.1 in
       (rest.0, joined tokens 0 at body.0 rest.0 word value, some_is rest.2.0, rest.2.1)
 

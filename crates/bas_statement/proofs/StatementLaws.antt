@@ -20,9 +20,9 @@ use Rattle.bas_expr.proofs.MarkLaws.{stops, at_comma, mark_inside, goes_mark}
 use Rattle.bas_expr.proofs.SeparatedLaws.{behind_longest, separator_first}
 use Rattle.bas_expr.proofs.ExpressionLaws.{expr_longest, no_hash}
 use Rattle.bas_expr.proofs.BracketLaws.{actual_longest, next_longest}
-use Rattle.bas_declaration.specs.Keywords.{at_word, exception_word}
+use Rattle.bas_declaration.specs.Keywords.{at_word, exception_word, spells}
 use Rattle.bas_declaration.specs.Parts.{only_equal, equals, Listed, E}
-use Rattle.bas_declaration.proofs.WordLaws.{word_longest}
+use Rattle.bas_declaration.proofs.WordLaws.{word_longest, spells_inside, mark_no_spells}
 use Rattle.bas_declaration.proofs.PartLaws.{an_expr, name_longest, no_comma_past, listed_longest, enclosed_longest}
 use Rattle.bas_list.specs.declared.TheConstants.{INNER_LEVELS}
 use Rattle.bas_list.specs.Words.{line_number}
@@ -32,10 +32,10 @@ use Rattle.bas_list.proofs.ListLaws.{targets_longest, enclosed_values_longest}
 use Rattle.bas_list.proofs.PrintLaws.{print_list_longest}
 use Rattle.bas_statement.specs.declared.verb.Verb.{Verb}
 use Rattle.bas_statement.specs.declared.verb.Verb.TheVariants as v
-use Rattle.bas_statement.specs.Verbs.{verb, at_spelled, exit_word, jump_word}
+use Rattle.bas_statement.specs.Verbs.{verb, exit_word, jump_word}
 use Rattle.bas_statement.specs.Statements.{let_of, go_of, call_of, chain_of, After, Number, IsArguments, IsAsked, IsLet, IsPrint, IsInput, IsLineInput, IsRead, IsRestore, Jumping, IsGo, Alone, IsExit, IsCall, IsCause, IsChain, StatementBy, IsStatement}
 use Rattle.bas_statement.specs.Reading.{GoesStatement, after, number, next_argument, argument_list, arguments, equals_value, let_statement, print_statement, input_statement, input_asked, line_input_statement, read_statement, restore_statement, jumping, go_statement, alone, exit_statement, call_statement, exception, cause_statement, with_values, chain_statement, statement_by, statement_at}
-use Rattle.bas_statement.proofs.GoesLaws.{verb_inside, spelled_inside, number_inside, at_a_mark, number_goes, spelled_goes, expr_goes, list_goes, print_goes}
+use Rattle.bas_statement.proofs.GoesLaws.{verb_inside, number_inside, number_goes, spells_goes, expr_goes, list_goes, print_goes}
 use Rattle.bas_statement.proofs.InputLaws.{asked_longest}
 
 -- each turn of a list takes two tokens at least
@@ -101,27 +101,27 @@ module _ (tokens : List Lexeme) where
   unfolding cause_statement
   cause_longest = statement_of exception_longest (expr_goes tokens) plain.CauseException
 
-  with_longest : ReadsLongest (length tokens) (1 + 3) (Behind (at_spelled (codes "WITH") tokens) (IsEnclosed tokens)) (λ _. ⊥) (with_values tokens)
+  with_longest : ReadsLongest (length tokens) (1 + 3) (Behind (spells (codes "WITH") tokens) (IsEnclosed tokens)) (λ _. ⊥) (with_values tokens)
   unfolding with_values
-  with_longest = behind_longest (at_spelled (codes "WITH") tokens) (spelled_inside tokens (codes "WITH")) (enclosed_values_longest tokens) (λ n z. absurd z)
+  with_longest = behind_longest (spells (codes "WITH") tokens) (spells_inside tokens (codes "WITH")) (enclosed_values_longest tokens) (λ n z. absurd z)
 
-  with_stands : (n : ℕ) (b : List Expr) (k : ℕ) → Behind (at_spelled (codes "WITH") tokens) (IsEnclosed tokens) n b k → IsSome (at_spelled (codes "WITH") tokens n)
-  with_stands n b k h = separator_first (at_spelled (codes "WITH") tokens) (spelled_inside tokens (codes "WITH")) (enclosed_values_longest tokens) (λ n z. absurd z) n b k h
+  with_stands : (n : ℕ) (b : List Expr) (k : ℕ) → Behind (spells (codes "WITH") tokens) (IsEnclosed tokens) n b k → IsSome (spells (codes "WITH") tokens n)
+  with_stands n b k h = separator_first (spells (codes "WITH") tokens) (spells_inside tokens (codes "WITH")) (enclosed_values_longest tokens) (λ n z. absurd z) n b k h
 
-  before_with : (n : ℕ) → GoesExpr tokens n → (b : List Expr) (k : ℕ) → Behind (at_spelled (codes "WITH") tokens) (IsEnclosed tokens) n b k → ⊥
+  before_with : (n : ℕ) → GoesExpr tokens n → (b : List Expr) (k : ℕ) → Behind (spells (codes "WITH") tokens) (IsEnclosed tokens) n b k → ⊥
   before_with n g b k h =
       let x = goes_mark tokens n g in
-      let none = at_a_mark tokens (codes "WITH") n x.0 x.1 in
+      let none = mark_no_spells tokens n (codes "WITH") x.0 x.1 in
       let some = with_stands n b k h in
       let f = rw none at some in
       absurd (cc)
 
   with_goes : (n : ℕ) → Begins (with_values tokens) n → GoesStatement tokens n
-  with_goes n h = let b = begun with_longest n h in by_value (at_spelled (codes "WITH") tokens n) refl (with_stands n b.0 b.1 b.2)
+  with_goes n h = let b = begun with_longest n h in by_value (spells (codes "WITH") tokens n) refl (with_stands n b.0 b.1 b.2)
     where
-      by_value : (o : Option (Unit {0})) → at_spelled (codes "WITH") tokens n ≡ o → IsSome o → GoesStatement tokens n
+      by_value : (o : Option (Unit {0})) → spells (codes "WITH") tokens n ≡ o → IsSome o → GoesStatement tokens n
       by_value None e z = absurd (cc)
-      by_value (Some u) e z = spelled_goes tokens (codes "WITH") refl n u e
+      by_value (Some u) e z = spells_goes tokens (codes "WITH") refl n u e
 
   chain_goes : (n : ℕ) → (GoesExpr tokens n ⊎ (⊥ ⊎ Begins (with_values tokens) n)) → GoesStatement tokens n
   chain_goes n (inl g) = expr_goes tokens n g
@@ -138,10 +138,10 @@ module _ (tokens : List Lexeme) where
   unfolding input_statement
   input_longest = statement_of (asked_longest tokens) (λ n g. g) (λ (p : Option Expr × Targets). plain.Input p.0 p.1)
 
-  input_asked_longest : ReadsLongest (length tokens) (1 + 1) (Behind (at_spelled (codes "INPUT") tokens) (IsAsked tokens)) (GoesStatement tokens) (input_asked tokens)
+  input_asked_longest : ReadsLongest (length tokens) (1 + 1) (Behind (spells (codes "INPUT") tokens) (IsAsked tokens)) (GoesStatement tokens) (input_asked tokens)
   unfolding input_asked
   input_asked_longest = built_longest (λ (parts : Unit {0} × (Option Expr × Targets)). parts.1)
-      (then_longest (terminal_longest (length tokens) (at_spelled (codes "INPUT") tokens) (spelled_inside tokens (codes "INPUT"))) (asked_longest tokens) (λ n z b k h. z))
+      (then_longest (terminal_longest (length tokens) (spells (codes "INPUT") tokens) (spells_inside tokens (codes "INPUT"))) (asked_longest tokens) (λ n z b k h. z))
 
   line_input_longest : ReadsLongest (length tokens) 1 (IsLineInput tokens) (GoesStatement tokens) (line_input_statement tokens)
   unfolding line_input_statement

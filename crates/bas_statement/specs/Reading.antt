@@ -11,14 +11,14 @@ use Rattle.bas_expr.specs.Marks.{at_mark, colon}
 use Rattle.bas_expr.specs.Separated.{behind}
 use Rattle.bas_expr.specs.Reading.{parenthesized, one_actual, next_actual}
 use Rattle.bas_balance.specs.Balance.{GoesOn}
-use Rattle.bas_declaration.specs.Keywords.{at_word, exception_word}
+use Rattle.bas_declaration.specs.Keywords.{at_word, exception_word, spells}
 use Rattle.bas_declaration.specs.Parts.{equals}
 use Rattle.bas_declaration.specs.Reading.{listed, e, name}
 use Rattle.bas_list.specs.Words.{line_number}
 use Rattle.bas_list.specs.Reading.{inner, enclosed_values, targets, print_list}
 use Rattle.bas_statement.specs.declared.verb.Verb.{Verb}
 use Rattle.bas_statement.specs.declared.verb.Verb.TheVariants as v
-use Rattle.bas_statement.specs.Verbs.{verb, at_spelled, exit_word, jump_word}
+use Rattle.bas_statement.specs.Verbs.{verb, exit_word, jump_word}
 use Rattle.bas_statement.specs.Statements.{let_of, go_of, call_of, chain_of}
 
 -- where a statement may go on: at a token that ends none
@@ -52,7 +52,7 @@ module _ (tokens : List Lexeme) where
   arguments = parenthesized tokens argument_list
 
   unfoldable pub prompt : Reader Expr
-  prompt = between (at_spelled (codes "PROMPT") tokens) (at_mark colon tokens) (e tokens)
+  prompt = between (spells (codes "PROMPT") tokens) (at_mark colon tokens) (e tokens)
 
   -- "PROMPT" expr ":" targets
   abbrev pub prompted_targets : Reader (Option Expr × Targets)
@@ -75,7 +75,7 @@ module _ (tokens : List Lexeme) where
   input_statement = built (λ (p : Option Expr × Targets). plain.Input p.0 p.1) (after asked)
 
   unfoldable pub input_asked : Reader (Option Expr × Targets)
-  input_asked = behind (at_spelled (codes "INPUT") tokens) asked
+  input_asked = behind (spells (codes "INPUT") tokens) asked
 
   unfoldable pub line_input_statement : Reader Plain
   line_input_statement = built (λ (p : Option Expr × Targets). plain.LineInput p.0 p.1) (after input_asked)
@@ -108,7 +108,7 @@ module _ (tokens : List Lexeme) where
   cause_statement = built plain.CauseException (after exception)
 
   unfoldable pub with_values : Reader (List Expr)
-  with_values = behind (at_spelled (codes "WITH") tokens) (enclosed_values tokens)
+  with_values = behind (spells (codes "WITH") tokens) (enclosed_values tokens)
 
   unfoldable pub chain_statement : Reader Plain
   chain_statement = built chain_of (after (e tokens maybe with_values))

@@ -10,7 +10,7 @@ use Rattle.bas_expr.specs.Lexemes.{Lexeme}
 use Rattle.bas_expr.specs.Marks.{at_mark, colon}
 use Rattle.bas_expr.specs.Separated.{Behind}
 use Rattle.bas_expr.specs.Grammar.{Parenthesized, IsActual, args_of}
-use Rattle.bas_declaration.specs.Keywords.{at_word, exception_word}
+use Rattle.bas_declaration.specs.Keywords.{at_word, exception_word, spells}
 use Rattle.bas_declaration.specs.Parts.{Listed, equals, E, Name}
 use Rattle.bas_list.specs.Words.{line_number}
 use Rattle.bas_list.specs.Lists.{Inner, IsEnclosed, IsTargets, IsPlist}
@@ -18,7 +18,7 @@ use Rattle.bas_statement.specs.declared.verb.Verb.{Verb}
 use Rattle.bas_statement.specs.declared.verb.Verb.TheVariants as v
 use Rattle.bas_statement.specs.declared.verb.Jump.{Jump}
 use Rattle.bas_statement.specs.declared.verb.Jump.TheVariants as jump
-use Rattle.bas_statement.specs.Verbs.{verb, at_spelled, exit_word, jump_word}
+use Rattle.bas_statement.specs.Verbs.{verb, exit_word, jump_word}
 
 -- ---- the trees that parts make
 
@@ -54,7 +54,7 @@ module _ (tokens : List Lexeme) where
 
   -- "PROMPT" expr ":"
   abbrev pub IsPrompt : Form Expr
-  IsPrompt = Between (at_spelled (codes "PROMPT") tokens) (at_mark colon tokens) (E tokens)
+  IsPrompt = Between (spells (codes "PROMPT") tokens) (at_mark colon tokens) (E tokens)
 
   -- [ "PROMPT" expr ":" ] targets
   abbrev pub IsAsked : Form (Option Expr × Targets)
@@ -74,7 +74,7 @@ module _ (tokens : List Lexeme) where
 
   -- "LINE" "INPUT" [ "PROMPT" expr ":" ] targets
   abbrev pub IsLineInput : Form Plain
-  IsLineInput = Built (λ (p : Option Expr × Targets). plain.LineInput p.0 p.1) (After (Behind (at_spelled (codes "INPUT") tokens) IsAsked))
+  IsLineInput = Built (λ (p : Option Expr × Targets). plain.LineInput p.0 p.1) (After (Behind (spells (codes "INPUT") tokens) IsAsked))
 
   -- "READ" targets
   abbrev pub IsRead : Form Plain
@@ -110,7 +110,7 @@ module _ (tokens : List Lexeme) where
 
   -- "CHAIN" expr [ "WITH" "(" expr { "," expr } ")" ]
   abbrev pub IsChain : Form Plain
-  IsChain = Built chain_of (After (E tokens perhaps Behind (at_spelled (codes "WITH") tokens) (IsEnclosed tokens)))
+  IsChain = Built chain_of (After (E tokens perhaps Behind (spells (codes "WITH") tokens) (IsEnclosed tokens)))
 
   -- the alternatives, by the word that begins each
   abbrev pub StatementBy : Verb → Form Plain

@@ -9,7 +9,6 @@ use Rattle.bas_ast.specs.declared.statement.Plain.TheVariants as plain
 use Rattle.bas_expr.specs.Lexemes.{Lexeme}
 use Rattle.bas_declaration.specs.declared.keyword.Keyword.{Keyword}
 use Rattle.bas_declaration.specs.declared.keyword.Keyword.TheVariants as k
-use Rattle.bas_list.specs.Words.{spelled}
 use Rattle.bas_statement.specs.declared.verb.Verb.{Verb}
 use Rattle.bas_statement.specs.declared.verb.Verb.TheVariants as v
 use Rattle.bas_statement.specs.declared.verb.Jump.{Jump}
@@ -59,18 +58,6 @@ verb_of (kind.Remark, text) = None
 -- the word at a place
 unfoldable pub verb : List Lexeme → ℕ → Option Verb
 verb tokens at = element_at verb_of tokens at
-
--- whether a token is a word, in any case
-abbrev pub spelling : List ℕ → Lexeme → Option (Unit {0})
-spelling word (kind.Word, text) = spelled word text
-spelling word (kind.Numeral, text) = None
-spelling word (kind.Quoted, text) = None
-spelling word (kind.Sign, text) = None
-spelling word (kind.Remark, text) = None
-
--- the word at a place, where it is this one
-unfoldable pub at_spelled : List ℕ → List Lexeme → ℕ → Option (Unit {0})
-at_spelled word tokens at = element_at (spelling word) tokens at
 
 -- "DO" | "FOR" | "SUB" | "FUNCTION" | "HANDLER", with what EXIT before it leaves
 abbrev pub exit_word : Keyword → Option Plain

@@ -3,9 +3,10 @@
 ghost use Rattle.std.specs.Prelude.{◌≡◌, IfOk};
 ghost use Rattle.bas_statement.specs.Reading as reading;
 
-use crate::verb::{spelled, verb_at};
+use crate::verb::verb_at;
 use bas_ast::{Expr, Plain, Targets};
 use bas_declaration::LEVELS;
+use bas_declaration::keyword::spells;
 use bas_expr::expression::expr;
 use bas_expr::source::Source;
 use bas_list::targets;
@@ -18,7 +19,7 @@ type Read<T> = Result<Option<(T, usize)>, AllocError>;
 fn prompt(alloc: Global, line: &Source<'_>, at: usize) -> Read<Expr>
     ensures { IfOk result (λ o. o ≡ reading.prompt line.now at) }
 {
-    let Some(()) = spelled(line, at, b"PROMPT") else {
+    let Some(()) = spells(line, at, b"PROMPT") else {
         return Ok(None);
     };
     let Some((prompt, after)) = expr(alloc, line, at + 1, LEVELS)? else {
@@ -77,7 +78,7 @@ pub fn input_statement(alloc: Global, line: &Source<'_>, at: usize) -> Read<Plai
 fn input_asked(alloc: Global, line: &Source<'_>, at: usize) -> Read<(Option<Expr>, Targets)>
     ensures { IfOk result (λ o. o ≡ reading.input_asked line.now at) }
 {
-    let Some(()) = spelled(line, at, b"INPUT") else {
+    let Some(()) = spells(line, at, b"INPUT") else {
         return Ok(None);
     };
     match asked(alloc, line, at + 1)? {

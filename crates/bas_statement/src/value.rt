@@ -4,11 +4,11 @@ ghost use Rattle.std.specs.Prelude.{◌≡◌, ◌<◌, IfOk, IfSome};
 ghost use Rattle.bas_declaration.specs.Parts.{equals};
 ghost use Rattle.bas_statement.specs.Reading as reading;
 
-use crate::verb::{spelled, verb_at};
+use crate::verb::verb_at;
 use bas_ast::{Expr, Plain, Rel};
 use bas_base::Seq;
 use bas_declaration::LEVELS;
-use bas_declaration::keyword::exception_word;
+use bas_declaration::keyword::{exception_word, spells};
 use bas_expr::expression::expr;
 use bas_expr::source::Source;
 use bas_list::{enclosed_values, print_list, targets};
@@ -103,7 +103,7 @@ pub fn cause_statement(alloc: Global, line: &Source<'_>, at: usize) -> Read<Plai
 fn with_values(alloc: Global, line: &Source<'_>, at: usize) -> Read<Seq<Expr>>
     ensures { IfOk result (λ o. o ≡ reading.with_values line.now at) }
 {
-    let Some(()) = spelled(line, at, b"WITH") else {
+    let Some(()) = spells(line, at, b"WITH") else {
         return Ok(None);
     };
     match enclosed_values(alloc, line, at + 1)? {

@@ -121,18 +121,6 @@ pub fn verb_at(line: &Source<'_>, at: usize) -> Option<Verb>
     }
 }
 
-/// The word at a place, where it is this one.
-#[tactic(auto, unfolding(crate::specs::Verbs::at_spelled, bas_form::specs::Element::element_at))]
-pub fn spelled(line: &Source<'_>, at: usize, word: &[u8]) -> Option<()>
-    ensures value { result ≡ verbs.at_spelled word.now line.now at }
-    ensures within { IfSome result (λ _. at < 4096) }
-{
-    match line.lexeme(at) {
-        Some((TokenKind::Word, text)) if text.eq_ignore_ascii_case(word) => Some(()),
-        _ => None,
-    }
-}
-
 /// What `EXIT` leaves, by the word at a place, behind it.
 pub fn exit_word(line: &Source<'_>, at: usize) -> Option<Plain>
     ensures value { result ≡ at_word verbs.exit_word line.now at }
