@@ -67,4 +67,4 @@ pub lay_stmts-loop-next-preserved : goal.lay_stmts-loop-next-preserved
 lay_stmts-loop-next-preserved t c =
     let i = c.loop-next.next-index in
     let left = turn c.args.stmts.now i c.next-item.result c.loop-next-test.true c.next-item.is in
-    stmts_turn c.args.layout.now c.loop-next.layout c.put_label.new.layout c.lay_stmt.new.layout c.args.from c.loop-next.size _ c.further-at.result c.in_ok-own.own c.joined-size.result _ _ (stmts_tree (drop i c.args.stmts.now)) (stmt_tree c.next-item.result) (stmts_tree (drop (i + 1) c.args.stmts.now)) (ap stmts_tree left) c.further-at.ensures (rw (← c.number.ensures.same, ← c.first_line.ensures) c.in_ok-put_label.ensures) c.in_ok-own.ensures c.joined-size.ensures c.loop-next.invariant
+    stmts_turn c.args.layout.now c.loop-next.layout c.put_label.new.layout c.lay_stmt.new.layout c.args.from c.loop-next.size _ c.further-at.result c.in_ok-own.own c.joined-size.result _ _ (stmts_tree (drop i c.args.stmts.now)) (stmt_tree c.next-item.result) (stmts_tree (drop (i + 1) c.args.stmts.now)) (ap stmts_tree left) c.further-at.ensures (rw (← (c.number.ensures.same ∙ c.first_line.ensures)) c.in_ok-put_label.ensures) c.in_ok-own.ensures c.joined-size.ensures c.loop-next.invariant
