@@ -1,5 +1,5 @@
 -- What was appended to the code and the line table; and what one section adds to those of its construct.
-use Rattle.std.specs.Prelude.{◌≡◌, ℕ, suc, ◌+◌, ◌≤◌, Bool, true, false, List, [], ◌∷◌, ◌++◌, length, drop, Option, None}
+use Rattle.std.specs.Prelude.{◌≡◌, ℕ, suc, ◌+◌, ◌≤◌, Bool, true, false, List, [], ◌∷◌, ◌++◌, length, Option, None}
 use Rattle.bas_ast.specs.Tree.{Cond, If, Elseif, Else, Do, Loop, LineItem, OfPart, NumLine}
 use Rattle.bas_mean.specs.World.{Variable}
 use Rattle.bas_mean.specs.Outcome as outcome
@@ -15,13 +15,13 @@ use Rattle.bas_genexpr.specs.Counts.{code_limit}
 use Rattle.bas_genexpr.specs.Sizes.{IsNext}
 use Rattle.bas_gen.specs.declared.output.Output.{Output}
 
--- the sizes were.sizes read, and code and lines were appended
+-- the sizes in front were read, and code and lines were appended
 pub record Appended (old new : Output) (rest : List ℕ) (made : List Instr) (rows : List LineEntry) : Type 0 where
   pub sizes : new.sizes ≡ rest
   pub code : new.code ≡ old.code ++ made
   pub lines : new.lines.items ≡ old.lines.items ++ rows
 
--- where the sizes begin.sizes with these and there is room, code and lines were appended
+-- where the sizes begin with these and there is room, code and lines were appended
 abbrev pub Emits : (old new : Output) → (sizes : List ℕ) → (size : ℕ) → (code : ℕ → List Instr) → (lines : ℕ → List LineEntry) → Type 0
 Emits old new sizes size code lines =
     (rest : List ℕ) → old.sizes ≡ sizes ++ rest → length old.code + size ≤ code_limit → Appended old new rest (code (length old.code)) (lines (length old.code))
