@@ -1,7 +1,8 @@
 -- Bytes from one place to another, and spaces at the end of a text.
-use Rattle.std.proofs.Common.{◌≡◌, ℕ, zero, suc, ◌+◌, ◌-◌, ◌<◌, ◌≤◌, ◌==◌, Bool, true, false, List, [], ◌∷◌, ◌++◌, map, get_or, refl, sym, ap, ◌∙◌, arith}
+use Rattle.std.proofs.Common.{◌≡◌, ℕ, zero, suc, ◌+◌, ◌-◌, ◌<◌, ◌≤◌, ◌==◌, Bool, true, false, List, [], ◌∷◌, ◌++◌, map, get_or, length, take, take_all, le_refl, refl, sym, ap, ◌∙◌, arith}
 use Rattle.std.proofs.lemmas.Bool.Decides.{nat_tests}
-use Rattle.std.proofs.lemmas.List.{map-append}
+use Rattle.std.proofs.lemmas.Bool.{ne_eqb}
+use Rattle.std.proofs.lemmas.List.{map-append, take_more}
 use Rattle.bas_form.specs.declared.byte_class.ByteClass.TheVariants.{Space}
 use Rattle.bas_form.specs.Bytes.{is_of_class}
 use Rattle.bas_text.specs.Trim.{as_space, unless_space, trim_right, bytes_from, between}
@@ -79,3 +80,22 @@ module _ (text : List ℕ) where
       ∙ trim_other (map as_space (between text from (end - 1))) (as_space (get_or text (end - 1) 0)) (space_is_not (get_or text (end - 1) 0) h)
       ∙ sym (copied_on from (end - 1) (omega arith))
       ∙ ap (λ n. map as_space (between text from n)) (sym (next_end end (omega arith)))
+
+-- ---- a text read from its end
+
+to_last : (text : List ℕ) → 1 ≤ length text → text ≡ take (length text - 1) text ++ get_or text (length text - 1) 0 ∷ []
+to_last text some =
+    let count : length text - 1 + 1 ≡ length text = omega arith in
+    sym (take_all (length text) text (le_refl (length text))) ∙ ap (λ n. take n text) (sym count) ∙ take_more text (length text - 1) 0 (omega arith)
+
+pub last_space : (text : List ℕ) → 1 ≤ length text → get_or text (length text - 1) 0 ≡ 32 → trim_right (take (length text - 1) text) ≡ trim_right text
+last_space text some space =
+    let front = take (length text - 1) text in
+    sym (trim_space front) ∙ ap (λ b. trim_right (front ++ b ∷ [])) (sym space) ∙ ap trim_right (sym (to_last text some))
+
+pub last_other : (text : List ℕ) → 1 ≤ length text → (get_or text (length text - 1) 0 ≡ 32 → ⊥) → trim_right text ≡ text
+last_other text some other =
+    let front = take (length text - 1) text in
+    let last = get_or text (length text - 1) 0 in
+    let apart : (last == 32) ≡ false = ne_eqb _ _ other in
+    ap trim_right (to_last text some) ∙ trim_other front last apart ∙ sym (to_last text some)

@@ -1,3 +1,5 @@
 pub mod Trim
 pub mod DataItems
 pub mod Reading
+pub mod Strings
+pub mod StringLaws

@@ -9,6 +9,11 @@ abbrev pub unless_space : ℕ → List ℕ → List ℕ
 unless_space b [] = if b == 32 then [] else b ∷ []
 unless_space b (c ∷ more) = b ∷ c ∷ more
 
+-- the text without the spaces at its front
+abbrev pub trim_left : List ℕ → List ℕ
+trim_left [] = []
+trim_left (b ∷ more) = if b == 32 then trim_left more else b ∷ more
+
 -- the text without the spaces at its end
 abbrev pub trim_right : List ℕ → List ℕ
 trim_right [] = []

@@ -1,6 +1,6 @@
 //! The strings of BASIC.
 
-ghost use Rattle.std.specs.Prelude.{◌≡◌, ◌<◌, ◌≤◌, ◌↔◌, length, IfOk, IsErrOf, MatchOption};
+ghost use Rattle.std.specs.Prelude.{◌≡◌, [], ◌<◌, ◌≤◌, ◌↔◌, length, IfOk, IsErrOf, IsOk, MatchOption};
 
 use std::alloc::{AllocError, Global};
 use std::marker::Model;
@@ -28,7 +28,8 @@ impl From<AllocError> for TextFault {
     }
 }
 
-/// A string: at most 65,535 bytes of any value. Contracts see it as the list of its bytes.
+/// A string: at most 65,535 bytes of any value. Contracts see it as the list of its bytes. A string of
+/// no bytes takes no memory of the heap, so making one never fails.
 #[derive(Debug, Drop)]
 pub struct StrVal {
     stored: Vec<u8>,
@@ -46,17 +47,35 @@ impl Model for StrVal {
 }
 
 impl StrVal {
-    /// The string of these bytes.
+    /// The string of these bytes, or `TooLong` exactly where there are more than 65,535.
     pub fn of(alloc: Global, bytes: &[u8]) -> Result<StrVal, TextFault>
         ensures same { IfOk result (λ string. string ≡ bytes.now) }
         ensures too_long { IsErrOf result TextFault.TooLong ↔ (MAX_STRING_LEN < length bytes.now) }
+        ensures empty { bytes.now ≡ [] → IsOk result }
     {
         if bytes.len() > MAX_STRING_LEN {
             return Err(TextFault::TooLong);
         }
-        Ok(StrVal {
-            stored: Vec::from_slice(alloc, bytes)?,
-        })
+        Ok(StrVal::copied(alloc, bytes)?)
+    }
+
+    /// The string of these bytes, which are not too many.
+    pub(crate) fn copied(alloc: Global, bytes: &[u8]) -> Result<StrVal, AllocError>
+        requires { length bytes.now ≤ MAX_STRING_LEN }
+        ensures same { IfOk result (λ string. string ≡ bytes.now) }
+        ensures empty { bytes.now ≡ [] → IsOk result }
+    {
+        let mut stored = Vec::with_capacity(alloc, bytes.len())?;
+        stored.extend_from_slice(bytes)?;
+        Ok(StrVal { stored })
+    }
+
+    /// The string of these bytes, which are not too many.
+    pub(crate) fn holding(stored: Vec<u8>) -> StrVal
+        requires { length stored.items ≤ MAX_STRING_LEN }
+        ensures { result ≡ stored.items }
+    {
+        StrVal { stored }
     }
 
     /// The string of these bytes, where they are not too many.
