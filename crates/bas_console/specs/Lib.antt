@@ -1,0 +1,4 @@
+pub mod Layout
+pub mod Line
+pub mod Prints
+pub mod Laws
