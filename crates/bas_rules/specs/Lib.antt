@@ -1,0 +1,11 @@
+pub mod Calling
+pub mod Declaring
+pub mod Examples
+pub mod Faces
+pub mod Jumping
+pub mod Kinds
+pub mod Naming
+pub mod Recording
+pub mod Sites
+pub mod Statements
+pub mod Well

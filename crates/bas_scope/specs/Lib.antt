@@ -1,0 +1,7 @@
+pub mod Bodies
+pub mod Examples
+pub mod Lines
+pub mod Nodes
+pub mod Scope
+pub mod Shapes
+pub mod Supplied

@@ -1,0 +1,55 @@
+-- The supplied functions, with the arguments that each takes.
+use Rattle.std.specs.Prelude.{ℕ, Bool, List, [], ◌∷◌, Option, codes}
+use Rattle.std.specs.Option.{is_some}
+use Rattle.std.specs.Map.{lookup}
+use Rattle.std.specs.Str.{bytes_eq}
+
+-- what an argument is
+pub data Parameter : Type 0 where
+  Number : Parameter
+  Text : Parameter
+  Array : Parameter
+
+-- the lists of arguments that a supplied function may take, one for each of its forms
+abbrev pub Forms : Type 0
+Forms = List (List Parameter)
+
+-- no argument
+abbrev pub nothing : Forms
+nothing = [] ∷ []
+
+-- one number
+abbrev pub number : Forms
+number = (Number ∷ []) ∷ []
+
+-- two numbers
+abbrev pub numbers : Forms
+numbers = (Number ∷ Number ∷ []) ∷ []
+
+-- one string
+abbrev pub text : Forms
+text = (Text ∷ []) ∷ []
+
+-- the number of the dimension may be left out where the array has one
+abbrev pub bound : Forms
+bound = (Array ∷ []) ∷ (Array ∷ Number ∷ []) ∷ []
+
+-- each supplied function with its forms
+abbrev pub supplied : List (List ℕ × Forms)
+supplied =
+    (codes "ABS", number) ∷ (codes "SGN", number) ∷ (codes "INT", number) ∷ (codes "IP", number) ∷ (codes "FP", number)
+    ∷ (codes "CEIL", number) ∷ (codes "MOD", numbers) ∷ (codes "REMAINDER", numbers) ∷ (codes "ROUND", numbers)
+    ∷ (codes "TRUNCATE", numbers) ∷ (codes "SQR", number) ∷ (codes "MAX", numbers) ∷ (codes "MIN", numbers)
+    ∷ (codes "MAXNUM", nothing) ∷ (codes "RND", nothing) ∷ (codes "EXTYPE", nothing) ∷ (codes "EXLINE", nothing)
+    ∷ (codes "LBOUND", bound) ∷ (codes "UBOUND", bound) ∷ (codes "LEN", text) ∷ (codes "ORD", text) ∷ (codes "CHR$", number)
+    ∷ (codes "POS", (Text ∷ Text ∷ []) ∷ (Text ∷ Text ∷ Number ∷ []) ∷ []) ∷ (codes "STR$", number) ∷ (codes "VAL", text)
+    ∷ (codes "UCASE$", text) ∷ (codes "LCASE$", text) ∷ (codes "LTRIM$", text) ∷ (codes "RTRIM$", text)
+    ∷ (codes "REPEAT$", (Text ∷ Number ∷ []) ∷ []) ∷ []
+
+-- the forms of the supplied function of a name
+abbrev pub forms_of : List ℕ → Option Forms
+forms_of name = lookup (bytes_eq name) supplied
+
+-- a name is that of a supplied function
+abbrev pub is_supplied : List ℕ → Bool
+is_supplied name = is_some (forms_of name)
