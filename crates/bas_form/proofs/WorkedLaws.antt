@@ -1,61 +1,54 @@
--- Each form's law where its parts are single elements, and the worked grammar.
-use Rattle.std.proofs.Common.{ℕ, ◌⊎◌, inl, inr, Option, IsSome, refl, arith}
+-- Each form's law, and the worked grammar.
+use Rattle.std.proofs.Common.{◌≡◌, ℕ, ◌+◌, ◌⊎◌, Option, Some, None, IsSome, refl, arith}
 use Rattle.bas_form.specs.Reader.{terminal, both, repeated, repeated_by, built, Begins}
 use Rattle.bas_form.specs.Element.{element_at}
-use Rattle.bas_form.specs.Laws.{Never, TerminalLaw, ThenLaw, OptionalLaw, RepeatedLaw, OrLaw, DispatchedLaw, NotAheadLaw, BuiltLaw, PerhapsLaw, ChainLaw, BetweenLaw, WorkedGrammar}
+use Rattle.bas_form.specs.Laws.{ReadForm, TerminalLaw, ThenLaw, OptionalLaw, RepeatedLaw, OrLaw, DispatchedLaw, NotAheadLaw, BuiltLaw, PerhapsLaw, ChainLaw, BetweenLaw, WorkedGrammar}
 use Rattle.bas_form.proofs.ReaderLaws.{terminal_longest, optional_longest, either_longest, dispatched_longest, not_ahead_longest, built_longest, weaker}
 use Rattle.bas_form.proofs.SequenceLaws.{then_longest, perhaps_longest, between_longest}
 use Rattle.bas_form.proofs.RepetitionLaws.{repeated_longest, chain_longest}
 
-pub terminal_law : TerminalLaw
-terminal_law len p ip = terminal_longest len p ip
+pub terminal_law : (A : Type 0) → TerminalLaw A
+terminal_law A len element inside = terminal_longest len element inside
 
-pub then_law : ThenLaw
-then_law len p q ip iq = then_longest (terminal_longest len p ip) (terminal_longest len q iq) (λ n h b m k. h)
+pub not_ahead_law : (A : Type 0) → NotAheadLaw A
+not_ahead_law A len element = not_ahead_longest len element
 
-only_begins : (f : ℕ → Option (ℕ × ℕ)) (n : ℕ) → ⊥ ⊎ Begins f n → Begins f n
-only_begins f n (inl h) = absurd h
-only_begins f n (inr h) = h
+module _ {A : Type 0} {len : ℕ} (F : ReadForm A len) where
+  pub optional_law : OptionalLaw F
+  optional_law takes = optional_longest F.takes_longest takes
 
-pub optional_law : OptionalLaw
-optional_law len p ip = weaker (optional_longest (terminal_longest len p ip) (omega arith)) (Begins (terminal p)) 0 (only_begins (terminal p)) (omega arith)
+  pub repeated_law : RepeatedLaw F
+  repeated_law takes apart = repeated_longest F.takes_longest takes apart
 
-pub repeated_law : RepeatedLaw
-repeated_law len p ip = weaker (repeated_longest (terminal_longest len p ip) (omega arith) (λ n h a m k. h)) (Begins (terminal p)) 0 (only_begins (terminal p)) (omega arith)
+  pub built_law : (B : Type 0) → BuiltLaw F B
+  built_law B make = built_longest make F.takes_longest
 
-never_either : (n : ℕ) → ⊥ ⊎ ⊥ → ⊥
-never_either n (inl h) = h
-never_either n (inr h) = h
+  pub chain_law : (O : Type 0) → ChainLaw F O
+  chain_law O operator inside apart = let is = chain_longest operator inside F.takes_longest apart in weaker is (λ n. F.goes_on n ⊎ IsSome (operator n)) F.least (λ n h. h) (omega arith)
 
-pub or_law : OrLaw
-or_law len p q ip iq apart = weaker (either_longest (terminal_longest len p ip) (terminal_longest len q iq) (λ n a k h b m g. apart n a b h.0 g.0)) Never 1 never_either (omega arith)
+  not_closing : {C : Type 0} (o : Option C) (c : C) → o ≡ None → o ≡ Some c → ⊥
+  not_closing o c none some = absurd (cc)
 
-pub dispatched_law : DispatchedLaw
-dispatched_law len key p ip = weaker (dispatched_longest key (λ k. terminal_longest len (p k) (ip k))) Never 1 (λ n h. h.1) (omega arith)
+  pub between_law : (O C : Type 0) → BetweenLaw F O C
+  between_law O C opening closing opens closes apart =
+      let is = between_longest opening opens closing closes F.takes_longest (λ n h c e. not_closing (closing n) c (apart n h) e) in
+      weaker is (λ _. ⊥) (F.least + 2) (λ n h. h) (omega arith)
 
-pub not_ahead_law : NotAheadLaw
-not_ahead_law len p = not_ahead_longest len p
+module _ {A B : Type 0} {len : ℕ} (F : ReadForm A len) (G : ReadForm B len) where
+  pub then_law : ThenLaw F G
+  then_law apart = then_longest F.takes_longest G.takes_longest apart
 
-pub built_law : BuiltLaw
-built_law len p make ip = built_longest make (terminal_longest len p ip)
+  pub perhaps_law : PerhapsLaw F G
+  perhaps_law takes apart =
+      let is = perhaps_longest F.takes_longest G.takes_longest takes apart in
+      weaker is (λ n. F.goes_on n ⊎ (G.goes_on n ⊎ Begins G.reader n)) F.least (λ n h. h) (omega arith)
 
-may_begin : (f : ℕ → Option (ℕ × ℕ)) (n : ℕ) → ⊥ ⊎ (⊥ ⊎ Begins f n) → Begins f n
-may_begin f n (inl h) = absurd h
-may_begin f n (inr (inl h)) = absurd h
-may_begin f n (inr (inr h)) = h
+pub or_law : {A : Type 0} {len : ℕ} (F G : ReadForm A len) → OrLaw F G
+or_law F G least few_f few_g apart =
+    either_longest (weaker F.takes_longest F.goes_on least (λ n h. h) few_f) (weaker G.takes_longest G.goes_on least (λ n h. h) few_g) apart
 
-pub perhaps_law : PerhapsLaw
-perhaps_law len p q ip iq = weaker (perhaps_longest (terminal_longest len p ip) (terminal_longest len q iq) (omega arith) (λ n h b m k. h)) (Begins (terminal q)) 1 (may_begin (terminal q)) (omega arith)
-
-only_operator : (operator : ℕ → Option ℕ) (n : ℕ) → ⊥ ⊎ IsSome (operator n) → IsSome (operator n)
-only_operator operator n (inl h) = absurd h
-only_operator operator n (inr h) = h
-
-pub chain_law : ChainLaw
-chain_law len operator p io ip = weaker (chain_longest operator io (terminal_longest len p ip) (λ n h. absurd h)) (λ n. IsSome (operator n)) 1 (only_operator operator) (omega arith)
-
-pub between_law : BetweenLaw
-between_law len opening p closing io ip ic = between_longest opening io closing ic (terminal_longest len p ip) (λ n h c k. h)
+pub dispatched_law : {K A : Type 0} {len : ℕ} (forms : K → ReadForm A len) → DispatchedLaw forms
+dispatched_law forms key least few = dispatched_longest key (λ k. weaker (forms k).takes_longest (forms k).goes_on least (λ n h. h) (few k))
 
 pub worked_grammar : WorkedGrammar
 unfolding terminal both repeated repeated_by built element_at

@@ -1,51 +1,77 @@
--- The law of each form, here of forms whose parts are single elements: its reader takes the longest.
-use Rattle.std.specs.Prelude.{◌≡◌, ℕ, List, [], ◌∷◌, cond, Option, Some, None, IsSome, codes, nat_le, ◌&&◌, ◌==◌}
-use Rattle.bas_form.specs.Form.{Terminal, ◌then◌, Optional, Repeated, ◌or◌, Dispatched, NotAhead, Built, ◌perhaps◌, Chain, Between}
-use Rattle.bas_form.specs.Reader.{terminal, ◌followed_by◌, optional, repeated, either, dispatched, not_ahead, built, ◌maybe◌, chain, between, ReadsLongest, Begins}
+-- The law of each form, whatever the forms are that it is made of: its reader takes the longest.
+use Rattle.std.specs.Prelude.{◌≡◌, ℕ, ◌+◌, ◌≤◌, ◌⊎◌, List, [], ◌∷◌, cond, Option, Some, None, IsSome, codes, nat_le, ◌&&◌, ◌==◌}
+use Rattle.std.proofs.lemmas.Option.{none-some}
+use Rattle.bas_form.specs.Form.{Form, Terminal, ◌then◌, Optional, Repeated, ◌or◌, Dispatched, NotAhead, Built, ◌perhaps◌, Chain, Between}
+use Rattle.bas_form.specs.Reader.{Reader, terminal, ◌followed_by◌, optional, repeated, either, dispatched, not_ahead, built, ◌maybe◌, chain, between, ReadsLongest, Begins}
 use Rattle.bas_form.specs.Element.{element_at, StandsInside}
+
+-- a form, and a reader that takes the longest of it in a text of `len` elements
+pub record ReadForm (A : Type 0) (len : ℕ) : Type 1 where
+  pub least : ℕ
+  pub form : Form A
+  pub goes_on : ℕ → Type 0
+  pub reader : Reader A
+  pub takes_longest : ReadsLongest len least form goes_on reader
+
+-- the form that never begins, with the reader that reads nothing
+abbrev pub nothing : {A : Type 0} (len : ℕ) → ReadForm A len
+nothing len = record {
+  least = 0;
+  form = λ at a next. ⊥;
+  goes_on = λ n. ⊥;
+  reader = λ at. None;
+  takes_longest = record { sound = λ at a next e. none-some (a, next) e; grows = λ at a next h. absurd h; within = λ at a next h. absurd h; longest = λ at a next h. absurd h };
+}
+
+-- no place that the one may go on from is one at which the other begins
+abbrev pub NeverBegins : {B : Type 0} → (ℕ → Type 0) → Form B → Type 0
+NeverBegins {B = B} GoesOn G = (n : ℕ) → GoesOn n → (b : B) (next : ℕ) → G n b next → ⊥
 
 -- a form behind which nothing goes on
 abbrev pub Never : ℕ → Type 0
 Never n = ⊥
 
-abbrev pub TerminalLaw : Type 0
-TerminalLaw = (len : ℕ) (p : ℕ → Option ℕ) → StandsInside len p → ReadsLongest len 1 (Terminal p) Never (terminal p)
+abbrev pub TerminalLaw : Type 0 → Type 0
+TerminalLaw A = (len : ℕ) (element : ℕ → Option A) → StandsInside len element → ReadsLongest len 1 (Terminal element) Never (terminal element)
 
-abbrev pub ThenLaw : Type 0
-ThenLaw = (len : ℕ) (p q : ℕ → Option ℕ) → StandsInside len p → StandsInside len q →
-    ReadsLongest len 2 (Terminal p then Terminal q) Never (terminal p followed_by terminal q)
+abbrev pub NotAheadLaw : Type 0 → Type 0
+NotAheadLaw A = (len : ℕ) (element : ℕ → Option A) → ReadsLongest len 0 (NotAhead element) Never (not_ahead element)
 
-abbrev pub OptionalLaw : Type 0
-OptionalLaw = (len : ℕ) (p : ℕ → Option ℕ) → StandsInside len p → ReadsLongest len 0 (Optional (Terminal p)) (Begins (terminal p)) (optional (terminal p))
+module _ {A : Type 0} {len : ℕ} (F : ReadForm A len) where
+  abbrev pub OptionalLaw : Type 0
+  OptionalLaw = 1 ≤ F.least → ReadsLongest len 0 (Optional F.form) (λ n. F.goes_on n ⊎ Begins F.reader n) (optional F.reader)
 
-abbrev pub RepeatedLaw : Type 0
-RepeatedLaw = (len : ℕ) (p : ℕ → Option ℕ) → StandsInside len p → ReadsLongest len 0 (Repeated (Terminal p)) (Begins (terminal p)) (repeated (terminal p) len)
+  abbrev pub RepeatedLaw : Type 0
+  RepeatedLaw = 1 ≤ F.least → NeverBegins F.goes_on F.form → ReadsLongest len 0 (Repeated F.form) (λ n. F.goes_on n ⊎ Begins F.reader n) (repeated F.reader len)
 
-abbrev pub OrLaw : Type 0
-OrLaw = (len : ℕ) (p q : ℕ → Option ℕ) → StandsInside len p → StandsInside len q → ((n a b : ℕ) → p n ≡ Some a → q n ≡ Some b → ⊥) →
-    ReadsLongest len 1 (Terminal p or Terminal q) Never (either (terminal p) (terminal q))
+  abbrev pub BuiltLaw : Type 0 → Type 0
+  BuiltLaw B = (make : A → B) → ReadsLongest len F.least (Built make F.form) F.goes_on (built make F.reader)
 
-abbrev pub DispatchedLaw : Type 0
-DispatchedLaw = (len : ℕ) (key : ℕ → Option ℕ) (p : ℕ → ℕ → Option ℕ) → ((k : ℕ) → StandsInside len (p k)) →
-    ReadsLongest len 1 (Dispatched key (λ k. Terminal (p k))) Never (dispatched key (λ k. terminal (p k)))
+  abbrev pub ChainLaw : Type 0 → Type 0
+  ChainLaw O = (operator : ℕ → Option O) → StandsInside len operator → ((n : ℕ) → F.goes_on n → operator n ≡ None) →
+      ReadsLongest len F.least (Chain operator F.form) (λ n. F.goes_on n ⊎ IsSome (operator n)) (chain operator F.reader len)
 
-abbrev pub NotAheadLaw : Type 0
-NotAheadLaw = (len : ℕ) (p : ℕ → Option ℕ) → ReadsLongest len 0 (NotAhead p) Never (not_ahead p)
+  abbrev pub BetweenLaw : Type 0 → Type 0 → Type 0
+  BetweenLaw O C = (opening : ℕ → Option O) (closing : ℕ → Option C) → StandsInside len opening → StandsInside len closing →
+      ((n : ℕ) → F.goes_on n → closing n ≡ None) → ReadsLongest len (F.least + 2) (Between opening closing F.form) Never (between opening closing F.reader)
 
-abbrev pub BuiltLaw : Type 0
-BuiltLaw = (len : ℕ) (p : ℕ → Option ℕ) (make : ℕ → ℕ) → StandsInside len p → ReadsLongest len 1 (Built make (Terminal p)) Never (built make (terminal p))
+module _ {A B : Type 0} {len : ℕ} (F : ReadForm A len) (G : ReadForm B len) where
+  abbrev pub ThenLaw : Type 0
+  ThenLaw = NeverBegins F.goes_on G.form → ReadsLongest len (F.least + G.least) (F.form then G.form) G.goes_on (F.reader followed_by G.reader)
 
-abbrev pub PerhapsLaw : Type 0
-PerhapsLaw = (len : ℕ) (p q : ℕ → Option ℕ) → StandsInside len p → StandsInside len q →
-    ReadsLongest len 1 (Terminal p perhaps Terminal q) (Begins (terminal q)) (terminal p maybe terminal q)
+  abbrev pub PerhapsLaw : Type 0
+  PerhapsLaw = 1 ≤ G.least → NeverBegins F.goes_on G.form →
+      ReadsLongest len F.least (F.form perhaps G.form) (λ n. F.goes_on n ⊎ (G.goes_on n ⊎ Begins G.reader n)) (F.reader maybe G.reader)
 
-abbrev pub ChainLaw : Type 0
-ChainLaw = (len : ℕ) (operator p : ℕ → Option ℕ) → StandsInside len operator → StandsInside len p →
-    ReadsLongest len 1 (Chain operator (Terminal p)) (λ n. IsSome (operator n)) (chain operator (terminal p) len)
+-- two forms that never begin at one place
+abbrev pub OrLaw : {A : Type 0} {len : ℕ} → ReadForm A len → ReadForm A len → Type 0
+OrLaw {A = A} {len = len} F G = (least : ℕ) → least ≤ F.least → least ≤ G.least → ((n : ℕ) (a : A) (next : ℕ) → F.form n a next → (b : A) (last : ℕ) → G.form n b last → ⊥) →
+    ReadsLongest len least (F.form or G.form) (λ n. F.goes_on n ⊎ G.goes_on n) (either F.reader G.reader)
 
-abbrev pub BetweenLaw : Type 0
-BetweenLaw = (len : ℕ) (opening p closing : ℕ → Option ℕ) → StandsInside len opening → StandsInside len p → StandsInside len closing →
-    ReadsLongest len 3 (Between opening closing (Terminal p)) Never (between opening closing (terminal p))
+-- a form for each key
+abbrev pub DispatchedLaw : {K A : Type 0} {len : ℕ} → (K → ReadForm A len) → Type 0
+DispatchedLaw {K = K} {len = len} forms = (key : ℕ → Option K) (least : ℕ) → ((k : K) → least ≤ (forms k).least) →
+    ReadsLongest len least (Dispatched key (λ k. (forms k).form)) (λ n. (k : K) × (forms k).goes_on n) (dispatched key (λ k. (forms k).reader))
 
 -- ---- a worked grammar: digits between commas, perhaps in parentheses
 

@@ -18,11 +18,11 @@ pub fn byte_end(text: &[u8], at: usize, class: ByteClass) -> Option<usize>
     }
 }
 
-/// The place after all bytes of the class.
+/// The place after the bytes of the class that follow from a place on: the place itself where there is
+/// none, as after the end of the text.
 pub fn past(text: &[u8], from: usize, class: ByteClass) -> usize
-    requires { from ≤ length text.now }
     ensures value { result ≡ bytes.past text.now class from }
-    ensures within { result ≤ length text.now }
+    ensures within { from ≤ length text.now → result ≤ length text.now }
     ensures grows { from ≤ result }
 {
     let mut at = from;

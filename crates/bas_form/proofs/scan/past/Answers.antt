@@ -5,7 +5,7 @@ use Rattle.bas_form.proofs.scan.past.Goals as goal
 pub loop-at-preserved : goal.loop-at-preserved
 loop-at-preserved c =
     record {
-      within = omega arith;
+      within = λ h. let test = c.loop-at-test.true in omega arith;
       grows = omega arith;
       same = past_on c.args.text.now c.args.class c.loop-at.at c.loop-at-test.true (sym c.has.ensures ∙ c.if-has.true) ∙ c.loop-at.invariant.same;
     }

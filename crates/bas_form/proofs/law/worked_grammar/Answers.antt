@@ -1,5 +1,5 @@
 use Rattle.bas_form.proofs.WorkedLaws.{worked_grammar}
-use Rattle.bas_form.proofs.worked_grammar.Goals as goal
+use Rattle.bas_form.proofs.law.worked_grammar.Goals as goal
 
 pub returns : goal.returns
 returns c = worked_grammar

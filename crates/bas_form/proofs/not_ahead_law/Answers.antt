@@ -1,5 +1,0 @@
-use Rattle.bas_form.proofs.WorkedLaws.{not_ahead_law}
-use Rattle.bas_form.proofs.not_ahead_law.Goals as goal
-
-pub returns : goal.returns
-returns c = not_ahead_law
