@@ -14,6 +14,7 @@ pub mod RecordEquations
 pub mod RecordTree
 pub mod StatementEquations
 pub mod StatementTree
+pub mod Supplied
 pub mod Tree
 pub mod UnitEquations
 pub mod UnitTree

@@ -2,7 +2,7 @@
 //!
 //! An alternative of a production is a variant, and its parts are the fields in their order. The
 //! trees are plain data: a contract sees a list where a field holds one, and the value where a
-//! field holds a box.
+//! field holds a box. Beside them are the names of the supplied functions.
 #![tactic(auto)]
 
 mod block;
@@ -13,8 +13,7 @@ pub mod laws;
 mod part;
 mod record_statement;
 mod statement;
-#[cfg(test)]
-mod tests;
+mod supplied;
 mod unit;
 
 pub use block::{Block, LineItem, NumLine, Section, Stmt};
@@ -28,4 +27,5 @@ pub use record_statement::{
     Access, Attr, Chan, Create, Miss, MissThen, MissWhen, Organization, Rectype, Setter,
 };
 pub use statement::{Branch, Pitem, Plain, Plist, Sep, Simple, Targets};
+pub use supplied::is_supplied;
 pub use unit::{Module, Procedure, Program, Unit};

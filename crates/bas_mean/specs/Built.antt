@@ -1,20 +1,8 @@
 -- Which programs have built constructs alone. Nothing is claimed of the others.
-use Rattle.std.specs.Prelude.{ℕ, Bool, true, false, not, ◌&&◌, ◌||◌, List, [], ◌∷◌, Option, Some, None, nat_eq, bytes_eq, codes}
+use Rattle.std.specs.Prelude.{ℕ, Bool, true, false, not, ◌&&◌, List, [], ◌∷◌, Option, Some, None, nat_eq}
 use Rattle.std.specs.List.{ends_with}
+use Rattle.bas_ast.specs.Supplied.{supplied_names, is_among}
 use Rattle.bas_ast.specs.Tree.{TermSign, Add, Subtract, Join, Expr, Sum, Terms, NoTerms, MoreTerms, Term, Product, Factors, NoFactors, MoreFactors, Factor, Power, Primaries, NoPrimaries, MorePrimaries, Primary, Numeric, Group, Named, Args, NoArgs, MoreArgs, Cond, AnyOf, Conjs, NoConjs, MoreConjs, Conj, AllOf, Tests, NoTests, MoreTests, Test, Not, CondGroup, Compare, Target, Variable, NoExprs, Sep, Pitem, Printed, Plain, Let, Print, Goto, ExitDo, Alone, Loopc, While, Until, If, Elseif, Else, EndIf, Do, Loop, ProgramLine, End, LineItem, Nothing, Rem, OfSimple, OfPart, NumLine, Stmt, Single, Nest, Sections, NoSections, MoreSections, Block, NoStmts, MoreStmts, SourceUnit, ProgramUnit}
-
--- the names of the supplied functions
-abbrev pub supplied_names : List (List ℕ)
-supplied_names =
-    codes "ABS" ∷ codes "SGN" ∷ codes "INT" ∷ codes "IP" ∷ codes "FP" ∷ codes "CEIL" ∷ codes "MOD" ∷ codes "REMAINDER" ∷ codes "ROUND"
-    ∷ codes "TRUNCATE" ∷ codes "SQR" ∷ codes "MAX" ∷ codes "MIN" ∷ codes "MAXNUM" ∷ codes "RND" ∷ codes "EXTYPE" ∷ codes "EXLINE"
-    ∷ codes "LBOUND" ∷ codes "UBOUND" ∷ codes "LEN" ∷ codes "ORD" ∷ codes "CHR$" ∷ codes "POS" ∷ codes "STR$" ∷ codes "VAL"
-    ∷ codes "UCASE$" ∷ codes "LCASE$" ∷ codes "LTRIM$" ∷ codes "RTRIM$" ∷ codes "REPEAT$" ∷ []
-
--- whether a name is one of a list
-abbrev pub is_among : List ℕ → List (List ℕ) → Bool
-is_among name [] = false
-is_among name (other ∷ others) = bytes_eq name other || is_among name others
 
 -- a numeric variable's name: it has no `$` and is no supplied function's
 unfoldable pub is_numeric_name : List ℕ → Bool

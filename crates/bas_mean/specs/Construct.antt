@@ -9,7 +9,7 @@ use Rattle.bas_mean.specs.Line.{line}
 use Rattle.bas_mean.specs.Simple.{simple_words}
 use Rattle.bas_mean.specs.Block.{loop_end}
 
--- nothing is said of a construct that is not built
+-- nothing is claimed of a construct that is not built
 abbrev pub not_built : World → Outcome
 not_built w = Ends Undefined w
 
@@ -18,7 +18,7 @@ abbrev pub decided : Bool → (held failed : World → Outcome) → World → Ou
 decided true held failed w = held w
 decided false held failed w = failed w
 
--- the meaning of a section's block, at a place, with what stands around it and the line that closes it
+-- the meaning of a section's block, at a place, with the loops around it and the line that closes it
 abbrev pub BlockMeaning : Type 0
 BlockMeaning = Around → Closing → World → Outcome
 
@@ -30,13 +30,13 @@ simple_line low p around l s whole w = line low p l (low.stmt p around whole) No
 abbrev pub remark_line : Lower → Place → Around → (l : ℕ) → Stmt → World → Outcome
 remark_line low p around l whole w = line low p l (low.stmt p around whole) Normal (Gives Onward) follow w
 
--- whether WHILE or UNTIL lets a loop go on; without either it does
+-- whether WHILE or UNTIL continues the loop; without either it continues
 abbrev pub goes_round : Here → Option Loopc → World → Evaluated Bool
 goes_round here None w = Gives true w
 goes_round here (Some (While c)) w = holds here c w
 goes_round here (Some (Until c)) w = then_with (holds here c w) (λ b w1. Gives (not b) w1)
 
--- IF and ELSEIF: the block, or the sections behind it
+-- IF and ELSEIF: the block, or the sections after it
 abbrev pub if_section : Lower → Place → Around → (l : ℕ) → Cond → Stmt → BlockMeaning → (rest : World → Outcome) → World → Outcome
 if_section low p around l c whole block rest w =
     line low p l (low.stmt p around whole) Normal (holds (here_at p around l) c) (λ b w1. decided b (block around Bare) rest w1) w
@@ -45,13 +45,13 @@ if_section low p around l c whole block rest w =
 abbrev pub in_do : ℕ → Around → Around
 in_do l around = record around { do_line = Some l }
 
--- DO: a turn of the block and of the LOOP line, and the line again
+-- DO: an iteration of the block and the LOOP line, and the DO line again
 abbrev pub do_section : Lower → Place → Around → (l : ℕ) → Option Loopc → (close : NumLine) → Stmt → BlockMeaning → World → Outcome
 do_section low p around l loopc close whole block w =
     line low p l (low.stmt p around whole) Normal (goes_round (here_at p around l) loopc)
     (λ b w1. decided b (λ w2. loop_end l (low.stmt p around whole) (low.stmt p around whole) (block (in_do l around) (ClosedBy l close) w2)) Normal w1) w
 
--- what the line of a section does, with its block and the sections behind it
+-- what the line of a section does, with its block and the sections after it
 abbrev pub section : Lower → Place → Around → NumLine → (close : NumLine) → Stmt → BlockMeaning → (rest : World → Outcome) → World → Outcome
 section low p around head close whole block rest = section_of head.item
   where
@@ -62,7 +62,7 @@ section low p around head close whole block rest = section_of head.item
     section_of (OfPart (Do loopc)) w = do_section low p around head.line loopc close whole block w
     section_of _ w = not_built w
 
--- LOOP: out of the loop, or behind the line
+-- LOOP: the next iteration, or out of the loop
 abbrev pub loop_line : Lower → Place → Around → Region → (opener l : ℕ) → Option Loopc → World → Outcome
 loop_line low p around r opener l loopc w =
     line low p l (low.lines p around r NoStmts) (Jumps (EndOf opener)) (goes_round (here_at p around l) loopc) (λ b w1. decided b Normal (Jumps (EndOf opener)) w1) w

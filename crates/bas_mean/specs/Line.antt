@@ -1,5 +1,5 @@
 -- A counted line: it takes one of the lines left, its words are executed, and what they lead to
--- follows. Where it raises an exception, the handlers around it are asked.
+-- follows. If it raises an exception, the handlers around it are started, innermost first.
 use Rattle.std.specs.Prelude.{ℕ, zero, suc, Bool, true, false, List, [], ◌∷◌, ◌++◌, length, codes, decimal}
 use Rattle.bas_mean.specs.World.{World, WorldOf, Terminal, with_left, with_caught, with_terminal}
 use Rattle.bas_mean.specs.Outcome.{Exception, Trouble, Raised, Halted, Finished, Chained, Beyond, Undefined, Evaluated, Gives, Fails, Asks, Outcome, Normal, Jumps, Leaves, Away, Retries, Continues, PassesOn, Returns, Ends}
@@ -22,8 +22,8 @@ abbrev pub counted : ℕ → (World → Outcome) → World → Outcome
 counted zero go w = Ends Beyond w
 counted (suc left) go w = go (with_left left w)
 
--- what the end of a handler's block is for the line at which it was started, where k handlers stand
--- behind it in the list
+-- what the end of a handler's block means for the line at which the handler was started; k is the number
+-- of handlers after it in the list
 abbrev pub settled : ℕ → (again on outward : World → Outcome) → Outcome → Outcome
 settled k again on outward (Normal w) = Leaves k w
 settled k again on outward (Jumps target w) = Away k target w
@@ -40,7 +40,7 @@ abbrev pub unless_full : Bool → Exception → (World → Outcome) → World �
 unless_full true x go w = Ends (Raised x) w
 unless_full false x go w = go w
 
--- a handler's block is closed by no line of its own
+-- a handler's block has no closing line of its own
 abbrev pub handler_region : Handler → Region
 handler_region h = record { block = h.block; closing = Bare }
 
@@ -53,7 +53,7 @@ handled low p l again on x (h ∷ behind) w =
     (low.lines (in_handler p behind) h.around (handler_region h) h.block (with_caught x.number x.line w1)))
     w
 
--- where no handler stands, the line is done again
+-- if there is no handler, the exception is reported and the line is executed again
 abbrev pub recovered : List Handler → Exception → (again raise : World → Outcome) → World → Outcome
 recovered [] x again raise w = again (reported x w)
 recovered (h ∷ behind) x again raise w = raise w
@@ -67,7 +67,7 @@ troubled (Chained program values) raise w = Ends (Chained program values) w
 troubled Beyond raise w = Ends Beyond w
 troubled Undefined raise w = Ends Undefined w
 
--- what the words have come to
+-- what follows the words, by how they ended
 abbrev pub worded : {V : Type 0} → List Handler → (again : World → Outcome) → (raise : Exception → World → Outcome) → (go : V → World → Outcome) → Evaluated V → Outcome
 worded handlers again raise go (Gives v w) = go v w
 worded handlers again raise go (Fails t w) = troubled t raise w

@@ -14,8 +14,8 @@ pub data Value : Type 0 where
   OfNumber : (number : Number) → Value
   OfText : (text : List ℕ) → Value
 
--- what no block takes: an exception that nobody caught, STOP, the end of the invocation's body, a
--- CHAIN, and the end of the lines; the last is for what breaks a rule or is not built
+-- what passes through all blocks: an unhandled exception, STOP, the end of the invocation's body, a
+-- CHAIN, and the end of the lines left; Undefined is for what breaks a rule or is not built
 pub data Trouble : Type 0 where
   Raised : (x : Exception) → Trouble
   Halted : Trouble
@@ -24,8 +24,8 @@ pub data Trouble : Type 0 where
   Beyond : Trouble
   Undefined : Trouble
 
--- an expression or the words of a line: they give a value, or fail, or ask that the line be done
--- again where no handler stands
+-- an expression or the words of a line: they give a value, or fail, or ask that the line be executed
+-- again if there is no handler
 pub data Evaluated (V : Type 0) : Type 0 where
   Gives : (v : V) (w : World) → Evaluated V
   Fails : (t : Trouble) (w : World) → Evaluated V
@@ -41,7 +41,7 @@ then_with (Asks x w) go = Asks x w
 abbrev pub undefined : {V : Type 0} → World → Evaluated V
 undefined w = Fails Undefined w
 
--- where a jump goes: to a line, behind the loop that a line opens, to that loop's next turn
+-- where a jump goes: to a line, past the end of the loop that a line opens, or to that loop's next iteration
 pub data Target : Type 0 where
   LineOf : (line : ℕ) → Target
   EndOf : (line : ℕ) → Target
@@ -58,8 +58,8 @@ pub data Next : Type 0 where
   Continue : Next
   PassOn : Next
 
--- a line or block: it ends in order, jumps, or is left towards the WHEN with k blocks around it, by
--- its handler's end or by the handler's jump; a handler's three words; RETURN; or a trouble
+-- how a line or block ends: in order, by a jump, by unwinding to the handler that is k-th from outside (at
+-- the end of a handler's block, or with a jump), by RETRY, CONTINUE or EXIT HANDLER, by RETURN, or in a trouble
 pub data Outcome : Type 0 where
   Normal : (w : World) → Outcome
   Jumps : (target : Target) (w : World) → Outcome
@@ -82,18 +82,18 @@ follow Retry w = Retries w
 follow Continue w = Continues w
 follow PassOn w = PassesOn w
 
--- which ends of its part a construct takes
+-- what a construct does with the ends of its part
 pub record Takes : Type 0 where
   pub normal : World → Outcome
   pub jumps : Target → World → Outcome
   pub leaves : ℕ → World → Outcome
   pub away : ℕ → Target → World → Outcome
 
--- a construct that takes no end
+-- a construct that passes on every end
 abbrev pub takes_none : Takes
 takes_none = record { normal = Normal; jumps = Jumps; leaves = Leaves; away = Away }
 
--- what it does not take passes through
+-- the other ends are passed on
 abbrev pub route : Takes → Outcome → Outcome
 route f (Normal w) = f.normal w
 route f (Jumps target w) = f.jumps target w

@@ -19,7 +19,7 @@ pub record Region : Type 0 where
   pub block : Block
   pub closing : Closing
 
--- a handler: its block, and what stands around that in the text
+-- a handler: its block, and the loops around that in the text
 pub record Handler : Type 0 where
   pub block : Block
   pub around : Around
@@ -38,7 +38,7 @@ pub record Place : Type 0 where
   pub unit : List ℕ
   pub refs : Variable → Ref
 
--- in a handler that is started at the place, with those behind it as its list
+-- inside a handler that is started at the place; the handlers after it are its list
 abbrev pub in_handler : Place → List Handler → Place
 in_handler p behind = record p { handlers = behind; depth = suc p.depth }
 
@@ -57,7 +57,7 @@ pub record Here : Type 0 where
 abbrev pub here_at : Place → Around → ℕ → Here
 here_at p around l = record { line = l; unit = p.unit; around = around; refs = p.refs }
 
--- what runs with fewer lines left: a statement, and the lines of a region from some of them on
+-- the meaning with fewer lines left: of a statement, and of the lines of a region from one of them on
 pub record Lower : Type 0 where
   pub stmt : Place → Around → Stmt → World → Outcome
   pub lines : Place → Around → Region → Block → World → Outcome

@@ -10,11 +10,11 @@ margin = 80
 abbrev pub line_ended : Terminal → Terminal
 line_ended t = record t { output = t.output ++ 10 ∷ []; column = 0 }
 
--- the bytes stand at the column
+-- the bytes are printed at the column
 abbrev pub placed : List ℕ → Terminal → Terminal
 placed text t = record t { output = t.output ++ text; column = t.column + length text }
 
--- an item that does not fit behind what stands on the line first ends it
+-- an item that does not fit on the line after what is there ends the line first
 abbrev pub item_placed : List ℕ → Terminal → Terminal
 item_placed text t = placed text (if nat_lt 0 t.column && nat_lt margin (t.column + length text) then line_ended t else t)
 

@@ -29,7 +29,7 @@ print_words here None [] w = Gives Onward (with_line_ended w)
 print_words here (Some (Printed e)) [] w = then_with (number here e w) (λ x w1. Gives Onward (with_line_ended (with_item (text_of x) w1)))
 print_words here _ _ w = undefined w
 
--- EXIT DO: behind the innermost DO around it
+-- EXIT DO: past the end of the innermost DO around it
 abbrev pub exit_words : Option ℕ → World → Evaluated Next
 exit_words None w = undefined w
 exit_words (Some l) w = Gives (Jump (EndOf l)) w
