@@ -1,5 +1,5 @@
 -- What is answered for a file is what the relation gives it.
-use Rattle.std.proofs.Common.{◌≡◌, ℕ, suc, ◌<◌, ◌≤◌, Bool, true, false, cond, List, [], ◌∷◌, ◌++◌, length, map, Option, Some, None, Result, Ok, Err, refl, ap, sym, ◌∙◌, subst, leb, ltb}
+use Rattle.std.proofs.Common.{◌≡◌, ℕ, suc, ◌<◌, Bool, true, false, cond, List, [], ◌∷◌, length, map, Option, Some, None, Result, Ok, Err, refl, ap, sym, ◌∙◌, subst, leb, ltb}
 use Rattle.std.proofs.lemmas.Bool.{leb-true, ltb-true, lt-ltb, le-leb}
 use Rattle.bas_ast.specs.Tree as tree
 use Rattle.bas_ast.specs.BlockTree.{line_tree}
@@ -7,7 +7,6 @@ use Rattle.bas_ast.specs.declared.block.LineItem.{LineItem}
 use Rattle.bas_ast.specs.declared.block.NumLine.{NumLine}
 use Rattle.bas_source.specs.Lines.{logical_lines}
 use Rattle.bas_source.specs.Number.{numbered}
-use Rattle.bas_line.specs.Items.{IsItem}
 use Rattle.bas_line.specs.Itemizing.{item_of}
 use Rattle.bas_line.proofs.WholeLaws.{item_stands, item_read}
 use Rattle.bas_nest.specs.Units.{AreUnits}
@@ -60,7 +59,7 @@ line_read_as count last text line h =
 
 -- ---- all lines
 
-abbrev lines_in : Result (List NumLine) SourceFault → List NumLine
+abbrev pub lines_in : Result (List NumLine) SourceFault → List NumLine
 lines_in (Ok ls) = ls
 lines_in (Err f) = []
 
@@ -68,7 +67,7 @@ abbrev units_in : Result (List tree.SourceUnit) SourceFault → List tree.Source
 units_in (Ok all) = all
 units_in (Err f) = []
 
-lines_are : (count last : ℕ) (texts : List (List ℕ)) (lines : List NumLine) → lines_of count last texts ≡ Ok lines → AreLines last texts lines
+pub lines_are : (count last : ℕ) (texts : List (List ℕ)) (lines : List NumLine) → lines_of count last texts ≡ Ok lines → AreLines last texts lines
 unfolding lines_of
 lines_are count last [] [] e = tt
 lines_are count last [] (line ∷ lines) e = absurd (cc)
@@ -85,7 +84,7 @@ lines_are count last (text ∷ texts) lines e = by_line (line_of count last text
     by_line (Err f) l h go = absurd (cc)
     by_line (Ok line) l h go = by_rest line (lines_of (suc count) line.line texts) lines l h (λ rest r. go line rest r)
 
-lines_read_as : (count last : ℕ) (texts : List (List ℕ)) (lines : List NumLine) → AreLines last texts lines → lines_of count last texts ≡ Ok lines
+pub lines_read_as : (count last : ℕ) (texts : List (List ℕ)) (lines : List NumLine) → AreLines last texts lines → lines_of count last texts ≡ Ok lines
 unfolding lines_of
 lines_read_as count last [] [] h = refl
 lines_read_as count last [] (line ∷ lines) h = absurd (h)

@@ -13,14 +13,14 @@ use Rattle.bas_source.specs.Number.{numbered}
 use Rattle.bas_line.specs.Items.{IsItem}
 use Rattle.bas_line.specs.Itemizing.{item_of}
 use Rattle.bas_nest.specs.Units.{AreUnits}
-use Rattle.bas_nest.specs.Reading.{Reading, nothing_read, read, line_read, unclosed}
+use Rattle.bas_nest.specs.Reading.{Reading, nothing_read, read, unclosed}
 use Rattle.bas_block.specs.declared.TheConstants.{LINE_BYTES}
 use Rattle.bas_block.specs.declared.file.SourceFault.{SourceFault}
 use Rattle.bas_block.specs.declared.file.SourceFault.TheVariants as fault
 
 -- ---- which units a file has
 
--- a logical line: of at most 4,096 bytes, with a number above the last one, and an item behind it
+-- a logical line: at most 4,096 bytes, with a number greater than the one before it, and an item after that
 abbrev pub IsLine : (last : ℕ) → List ℕ → NumLine → Type 0
 IsLine last text line =
     (rest : List ℕ) × (length text ≤ LINE_BYTES) × (numbered text ≡ Some (line.line, rest)) × (last < line.line) × IsItem rest line.item
@@ -43,7 +43,7 @@ abbrev pub with_item : (number : ℕ) → Option LineItem → Result NumLine Sou
 with_item number None = Err (fault.BadLine number)
 with_item number (Some item) = Ok (record { line = number; item = item })
 
--- a line whose number is above the last one
+-- a line whose number is greater than the one before it
 abbrev pub in_order : (last : ℕ) → Option (ℕ × List ℕ) → (count : ℕ) → Result NumLine SourceFault
 in_order last None count = Err (fault.Unnumbered count)
 in_order last (Some found) count = if nat_lt last found.0 then with_item found.0 (item_of found.1) else Err (fault.OutOfOrder found.0)
@@ -65,17 +65,17 @@ unfoldable pub lines_of : (count last : ℕ) → List (List ℕ) → Result (Lis
 lines_of count last [] = Ok []
 lines_of count last (text ∷ texts) = behind_line (line_of count last text) (λ line. onto line (lines_of (suc count) line.line texts))
 
--- the units that were read; none are no file
+-- the units that were read, or NoUnit if there are none
 abbrev pub some_units : List tree.SourceUnit → Result (List tree.SourceUnit) SourceFault
 some_units [] = Err fault.NoUnit
 some_units (unit ∷ units) = Ok (unit ∷ units)
 
--- what is open at the end is not closed
+-- Unclosed, if something is open at the end; otherwise the units
 abbrev pub closed : List tree.SourceUnit → Option ℕ → Result (List tree.SourceUnit) SourceFault
 closed units None = some_units units
 closed units (Some number) = Err (fault.Unclosed number)
 
--- the units, or the first line that no nesting takes
+-- the units, or the first line that fits no block
 abbrev pub nested : Result Reading ℕ → Result (List tree.SourceUnit) SourceFault
 nested (Err number) = Err (fault.BadNest number)
 nested (Ok r) = closed r.units (unclosed r.opened)
@@ -105,7 +105,7 @@ onto_all front (Ok lines) = Ok (front ++ lines)
 
 -- ---- what joins the two
 
--- what is answered for a file is what it has
+-- the units that are answered for a file are those that it has
 abbrev pub FilesAreRead : Type 0
 FilesAreRead = (file : List ℕ) (units : List tree.SourceUnit) → units_of file ≡ Ok units → IsFile file units
 
@@ -115,3 +115,19 @@ AllFilesAreRead = (file : List ℕ) (units : List tree.SourceUnit) → IsFile fi
 -- a file has one list of units at most
 abbrev pub OneList : Type 0
 OneList = (file : List ℕ) (a b : List tree.SourceUnit) → IsFile file a → IsFile file b → a ≡ b
+
+-- ---- the line at which a file is refused
+
+-- lines after which no file has units, whatever lines follow them
+abbrev pub EndsAllFiles : List NumLine → Type 0
+EndsAllFiles front = (file : List ℕ) (behind : List NumLine) (units : List tree.SourceUnit) → AreLines 0 (logical_lines file) (front ++ behind) → IsFile file units → ⊥
+
+-- lines that others can follow so that all are units
+abbrev pub CanGoOn : List NumLine → Type 0
+CanGoOn front = (behind : List tree.NumLine) × (units : List tree.SourceUnit) × AreUnits units (map line_tree front ++ behind)
+
+-- the line of a `BadNest` is the first of its file after which no file has units
+abbrev pub BadNestEndsAll : Type 0
+BadNestEndsAll = (file : List ℕ) (number : ℕ) → units_of file ≡ Err (fault.BadNest number) →
+    (before : List NumLine) × (line : NumLine) × (behind : List NumLine) × AreLines 0 (logical_lines file) (before ++ line ∷ behind)
+    × (line.line ≡ number) × EndsAllFiles (before ++ line ∷ []) × CanGoOn before

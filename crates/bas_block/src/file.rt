@@ -20,26 +20,35 @@ use bas_line::{LineFault, line_item};
 use bas_nest::{Reading, line_read, nothing_read, unclosed};
 use bas_source::{logical_lines, numbered};
 use std::alloc::{AllocError, Global};
+use thiserror::Error;
 
 /// Why a file has no units. Lines are counted from 1, those that are skipped left out and joined ones
 /// as one; a fault of a line that has a number tells the number.
-#[derive(Clone, Copy, Debug)]
+#[derive(Clone, Copy, Debug, Error)]
 pub enum SourceFault {
     /// The line of this count has more than 4,096 bytes.
+    #[error("line {0} of the file is too long")]
     TooLong(u32),
     /// The line of this count does not begin with a line number.
+    #[error("line {0} of the file has no line number")]
     Unnumbered(u32),
     /// The line's number is not above the one before it.
+    #[error("a line number is not above the one before it")]
     OutOfOrder(Line),
-    /// What stands behind the number is none of the language.
+    /// What follows the number is none of the language.
+    #[error("a line is not in the language")]
     BadLine(Line),
     /// The first line that no nesting takes.
+    #[error("a line does not fit into what is open")]
     BadNest(Line),
     /// The line that opened the innermost of what is open at the end.
+    #[error("what a line opens is not closed")]
     Unclosed(Line),
     /// No line belongs to a unit.
+    #[error("the file has no program")]
     NoUnit,
     /// There was no memory for it.
+    #[error("out of memory")]
     Memory,
 }
 

@@ -1,6 +1,6 @@
 //! What follows from the reading of files.
 
-ghost use Rattle.bas_block.specs.Files.{AllFilesAreRead, FilesAreRead, OneList};
+ghost use Rattle.bas_block.specs.Files.{AllFilesAreRead, BadNestEndsAll, FilesAreRead, OneList};
 
 /// What is answered for a file is what the relation gives it, both ways.
 #[tactic(auto, using(crate::proofs::FileLaws::files_are_read))]
@@ -12,4 +12,9 @@ pub fn file_law()
 /// A file has one list of units at most.
 pub fn one_file_law()
     ensures { OneList }
+{}
+
+/// The line of a `BadNest` is the first after which no file has units, whatever lines follow it.
+pub fn bad_nest_law()
+    ensures { BadNestEndsAll }
 {}

@@ -6,11 +6,9 @@
 
 mod file;
 mod law;
-#[cfg(test)]
-mod tests;
 
 pub use file::{SourceFault, units_of};
-pub use law::{file_law, one_file_law};
+pub use law::{bad_nest_law, file_law, one_file_law};
 
 /// The most bytes of a logical line, its number and its spaces among them.
 pub const LINE_BYTES: usize = 4096;

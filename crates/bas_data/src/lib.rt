@@ -7,8 +7,6 @@
 
 mod data_text;
 mod law;
-#[cfg(test)]
-mod tests;
 
 pub use data_text::{data, data_word};
 pub use law::{data_law, word_law};

@@ -34,7 +34,7 @@ use Rattle.bas_expr.proofs.ExpressionLaws.{expr_longest}
 use Rattle.bas_expr.proofs.ConditionLaws.{cond_longest}
 use Rattle.bas_declaration.specs.declared.keyword.Keyword.{Keyword}
 use Rattle.bas_declaration.specs.declared.keyword.Keyword.TheVariants as k
-use Rattle.bas_declaration.specs.declared.TheConstants.{LEVELS}
+use Rattle.bas_expr.specs.declared.TheConstants.{LEVELS}
 use Rattle.bas_declaration.specs.Keywords.{keyword, at_word, then_word, to_word, step_word, case_word, else_word, is_word, exception_word, in_word, use_word, turn_word, procedure_word, closed_word}
 use Rattle.bas_declaration.specs.Digits.{digits}
 use Rattle.bas_declaration.specs.Parts.{listed_of, Listed, equals, only_equal, case_of, name_formal_of, formals_of, loopc_of, for_of, end_of, external_of, E, C, Word, Name, IsConst, IsCase, IsFormal, IsFormals, IsHeading, IsLoopc, Alone, Named, Headed, Tested, Looping, IsFor, IsSelect, IsCaseLine, IsWhen, IsExternal, IsDef, IsEnd, PartBy, IsPart}

@@ -31,7 +31,7 @@ use Rattle.bas_declaration.specs.declared.keyword.Keyword.{Keyword}
 use Rattle.bas_declaration.specs.declared.keyword.Keyword.TheVariants as k
 use Rattle.bas_declaration.specs.declared.keyword.LoopWord.{LoopWord}
 use Rattle.bas_declaration.specs.declared.keyword.LoopWord.TheVariants as turn
-use Rattle.bas_declaration.specs.declared.TheConstants.{LEVELS}
+use Rattle.bas_expr.specs.declared.TheConstants.{LEVELS}
 use Rattle.bas_declaration.specs.Keywords.{keyword, at_word, then_word, to_word, step_word, case_word, else_word, is_word, exception_word, in_word, use_word, turn_word, procedure_word, closed_word}
 use Rattle.bas_declaration.specs.Digits.{digits}
 

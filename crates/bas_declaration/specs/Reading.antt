@@ -25,7 +25,7 @@ use Rattle.bas_expr.specs.Reading.{parenthesized, expr}
 use Rattle.bas_expr.specs.Testing.{cond}
 use Rattle.bas_declaration.specs.declared.keyword.Keyword.{Keyword}
 use Rattle.bas_declaration.specs.declared.keyword.Keyword.TheVariants as k
-use Rattle.bas_declaration.specs.declared.TheConstants.{LEVELS}
+use Rattle.bas_expr.specs.declared.TheConstants.{LEVELS}
 use Rattle.bas_declaration.specs.Keywords.{keyword, at_word, then_word, to_word, step_word, case_word, else_word, is_word, exception_word, in_word, use_word, turn_word, procedure_word, closed_word}
 use Rattle.bas_declaration.specs.Digits.{digits}
 use Rattle.bas_declaration.specs.Parts.{listed_of, equals, case_of, name_formal_of, formals_of, loopc_of, for_of, end_of, external_of}

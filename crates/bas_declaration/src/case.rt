@@ -6,14 +6,14 @@ ghost use Rattle.bas_declaration.specs.Reading as reading;
 use crate::keyword::{is_word, to_word};
 use bas_ast::{Case, Const};
 use bas_base::Seq;
-use bas_expr::source::Source;
+use bas_expr::TokenLine;
 use std::alloc::{AllocError, Global};
 
 type Read<T> = Result<Option<(T, usize)>, AllocError>;
 
 /// `[ "+" | "-" ] numeral`
 #[tactic(auto, unfolding(crate::specs::Reading::signed_numeral, bas_form::specs::Reader::built, bas_form::specs::Reader::both, bas_form::specs::Reader::optional, bas_form::specs::Reader::terminal))]
-fn signed_numeral(line: &Source<'_>, at: usize) -> Option<(Const, usize)>
+fn signed_numeral(line: &TokenLine<'_>, at: usize) -> Option<(Const, usize)>
     ensures { result ≡ reading.signed_numeral line.now at }
 {
     let sign = line.sign(at);
@@ -29,7 +29,7 @@ fn signed_numeral(line: &Source<'_>, at: usize) -> Option<(Const, usize)>
 
 /// `[ "+" | "-" ] numeral | quoted`
 #[tactic(auto, unfolding(crate::specs::Reading::one_const, bas_form::specs::Reader::either, bas_form::specs::Reader::built, bas_form::specs::Reader::terminal))]
-fn constant(alloc: Global, line: &Source<'_>, at: usize) -> Read<Const>
+fn constant(alloc: Global, line: &TokenLine<'_>, at: usize) -> Read<Const>
     ensures { IfOk result (λ o. o ≡ reading.one_const line.now at) }
 {
     if let Some(found) = signed_numeral(line, at) {
@@ -43,7 +43,7 @@ fn constant(alloc: Global, line: &Source<'_>, at: usize) -> Read<Const>
 
 /// `"TO" const`
 #[tactic(auto, unfolding(crate::specs::Reading::to_const, bas_form::specs::Reader::built, bas_form::specs::Reader::both, bas_form::specs::Reader::terminal))]
-fn to_const(alloc: Global, line: &Source<'_>, at: usize) -> Read<Const>
+fn to_const(alloc: Global, line: &TokenLine<'_>, at: usize) -> Read<Const>
     ensures { IfOk result (λ o. o ≡ reading.to_const line.now at) }
 {
     let Some(()) = to_word(line, at) else {
@@ -57,7 +57,7 @@ fn to_const(alloc: Global, line: &Source<'_>, at: usize) -> Read<Const>
 
 /// `const [ "TO" const ]`
 #[tactic(auto, unfolding(crate::specs::Reading::const_case, bas_form::specs::Reader::built, bas_form::specs::Reader::both, bas_form::specs::Reader::optional))]
-fn const_case(alloc: Global, line: &Source<'_>, at: usize) -> Read<Case>
+fn const_case(alloc: Global, line: &TokenLine<'_>, at: usize) -> Read<Case>
     ensures { IfOk result (λ o. o ≡ reading.const_case line.now at) }
 {
     let Some((low, at)) = constant(alloc, line, at)? else {
@@ -71,7 +71,7 @@ fn const_case(alloc: Global, line: &Source<'_>, at: usize) -> Read<Case>
 
 /// `"IS" rel const`
 #[tactic(auto, unfolding(crate::specs::Reading::is_case, bas_form::specs::Reader::built, bas_form::specs::Reader::both, bas_form::specs::Reader::terminal))]
-fn is_case(alloc: Global, line: &Source<'_>, at: usize) -> Read<Case>
+fn is_case(alloc: Global, line: &TokenLine<'_>, at: usize) -> Read<Case>
     ensures { IfOk result (λ o. o ≡ reading.is_case line.now at) }
 {
     let Some(()) = is_word(line, at) else {
@@ -89,7 +89,7 @@ fn is_case(alloc: Global, line: &Source<'_>, at: usize) -> Read<Case>
 
 /// `const | const "TO" const | "IS" rel const`
 #[tactic(auto, unfolding(crate::specs::Reading::one_case, bas_form::specs::Reader::either))]
-fn case(alloc: Global, line: &Source<'_>, at: usize) -> Read<Case>
+fn case(alloc: Global, line: &TokenLine<'_>, at: usize) -> Read<Case>
     ensures { IfOk result (λ o. o ≡ reading.one_case line.now at) }
 {
     match const_case(alloc, line, at)? {
@@ -100,7 +100,7 @@ fn case(alloc: Global, line: &Source<'_>, at: usize) -> Read<Case>
 
 /// `"," case`
 #[tactic(auto, unfolding(bas_form::specs::Reader::built, bas_form::specs::Reader::both, bas_form::specs::Reader::terminal))]
-fn next_case(alloc: Global, line: &Source<'_>, at: usize) -> Read<Case>
+fn next_case(alloc: Global, line: &TokenLine<'_>, at: usize) -> Read<Case>
     ensures { IfOk result (λ o. o ≡ reading.next_case line.now at) }
 {
     let Some(()) = line.comma(at) else {
@@ -115,7 +115,7 @@ fn next_case(alloc: Global, line: &Source<'_>, at: usize) -> Read<Case>
 /// `{ "," case }`
 fn more_cases(
     alloc: Global,
-    line: &Source<'_>,
+    line: &TokenLine<'_>,
     mut at: usize,
     first: Case,
 ) -> Result<(Vec<Case>, usize), AllocError>
@@ -132,7 +132,7 @@ fn more_cases(
 
 /// `case { "," case }`
 #[tactic(auto, unfolding(crate::specs::Reading::cases, bas_form::specs::Reader::built, bas_form::specs::Reader::both, bas_form::specs::Reader::repeated))]
-pub fn cases(alloc: Global, line: &Source<'_>, at: usize) -> Read<Seq<Case>>
+pub fn cases(alloc: Global, line: &TokenLine<'_>, at: usize) -> Read<Seq<Case>>
     ensures { IfOk result (λ o. o ≡ reading.cases line.now at) }
 {
     let Some((first, after)) = case(alloc, line, at)? else {

@@ -12,14 +12,14 @@ use crate::keyword::{
 };
 use bas_ast::{Decl, DeclaredKind, Items, ProcedureKind, TypeSpec};
 use bas_base::{Name, Seq};
-use bas_expr::source::Source;
+use bas_expr::TokenLine;
 use std::alloc::{AllocError, Global};
 
 type Read<T> = Result<Option<(T, usize)>, AllocError>;
 
 /// `( "NUMERIC" | "STRING" ) items`
 #[tactic(auto, unfolding(crate::specs::Declaring::kinded, bas_form::specs::Reader::both, bas_form::specs::Reader::terminal))]
-fn kinded(alloc: Global, line: &Source<'_>, at: usize) -> Read<(DeclaredKind, Items)>
+fn kinded(alloc: Global, line: &TokenLine<'_>, at: usize) -> Read<(DeclaredKind, Items)>
     ensures { IfOk result (λ o. o ≡ reading.kinded line.now at) }
 {
     let Some(kind) = kind_word(line, at) else {
@@ -33,7 +33,7 @@ fn kinded(alloc: Global, line: &Source<'_>, at: usize) -> Read<(DeclaredKind, It
 
 /// `"BASE" ( "0" | "1" )`
 #[tactic(auto, unfolding(crate::specs::Declaring::base_part, bas_form::specs::Reader::built, bas_form::specs::Reader::both, bas_form::specs::Reader::terminal))]
-fn base_part(line: &Source<'_>, at: usize) -> Option<(Decl, usize)>
+fn base_part(line: &TokenLine<'_>, at: usize) -> Option<(Decl, usize)>
     ensures { result ≡ reading.base_part line.now at }
 {
     let Some(()) = base_word(line, at) else {
@@ -48,7 +48,7 @@ fn base_part(line: &Source<'_>, at: usize) -> Option<(Decl, usize)>
 
 /// `"FIXED" type`
 #[tactic(auto, unfolding(crate::specs::Declaring::fixed, bas_form::specs::Reader::built, bas_form::specs::Reader::both, bas_form::specs::Reader::terminal))]
-fn fixed(line: &Source<'_>, at: usize) -> Option<(TypeSpec, usize)>
+fn fixed(line: &TokenLine<'_>, at: usize) -> Option<(TypeSpec, usize)>
     ensures { result ≡ reading.fixed line.now at }
 {
     let Some(()) = fixed_word(line, at) else {
@@ -62,7 +62,7 @@ fn fixed(line: &Source<'_>, at: usize) -> Option<(TypeSpec, usize)>
 
 /// `"DECIMAL" | "FIXED" type`
 #[tactic(auto, unfolding(crate::specs::Declaring::arithmetic, bas_form::specs::Reader::either, bas_form::specs::Reader::built, bas_form::specs::Reader::terminal))]
-fn arithmetic(line: &Source<'_>, at: usize) -> Option<(Decl, usize)>
+fn arithmetic(line: &TokenLine<'_>, at: usize) -> Option<(Decl, usize)>
     ensures { result ≡ reading.arithmetic line.now at }
 {
     if let Some(()) = decimal_word(line, at) {
@@ -76,7 +76,7 @@ fn arithmetic(line: &Source<'_>, at: usize) -> Option<(Decl, usize)>
 
 /// `"ARITHMETIC" ( "DECIMAL" | "FIXED" type )`
 #[tactic(auto, unfolding(crate::specs::Declaring::arithmetic_part, bas_form::specs::Reader::built, bas_form::specs::Reader::both, bas_form::specs::Reader::terminal))]
-fn arithmetic_part(line: &Source<'_>, at: usize) -> Option<(Decl, usize)>
+fn arithmetic_part(line: &TokenLine<'_>, at: usize) -> Option<(Decl, usize)>
     ensures { result ≡ reading.arithmetic_part line.now at }
 {
     let Some(()) = arithmetic_word(line, at) else {
@@ -90,7 +90,7 @@ fn arithmetic_part(line: &Source<'_>, at: usize) -> Option<(Decl, usize)>
 
 /// What stands behind `OPTION`.
 #[tactic(auto, unfolding(crate::specs::Declaring::option_part, bas_form::specs::Reader::either))]
-fn option_part(line: &Source<'_>, at: usize) -> Option<(Decl, usize)>
+fn option_part(line: &TokenLine<'_>, at: usize) -> Option<(Decl, usize)>
     ensures { result ≡ reading.option_part line.now at }
 {
     match base_part(line, at) {
@@ -101,7 +101,7 @@ fn option_part(line: &Source<'_>, at: usize) -> Option<(Decl, usize)>
 
 /// `"OPTION" ( "BASE" ( "0" | "1" ) | "ARITHMETIC" ( "DECIMAL" | "FIXED" type ) )`
 #[tactic(auto, unfolding(crate::specs::Declaring::option_line, bas_form::specs::Reader::built, bas_form::specs::Reader::both, bas_form::specs::Reader::terminal))]
-fn option_line(line: &Source<'_>, at: usize) -> Option<(Decl, usize)>
+fn option_line(line: &TokenLine<'_>, at: usize) -> Option<(Decl, usize)>
     ensures { result ≡ reading.option_line line.now at }
 {
     let Some(_) = word_at(line, at) else {
@@ -115,7 +115,7 @@ fn option_line(line: &Source<'_>, at: usize) -> Option<(Decl, usize)>
 
 /// `"DIM" items`
 #[tactic(auto, unfolding(crate::specs::Declaring::dim_line, bas_form::specs::Reader::built, bas_form::specs::Reader::both, bas_form::specs::Reader::terminal))]
-fn dim_line(alloc: Global, line: &Source<'_>, at: usize) -> Read<Decl>
+fn dim_line(alloc: Global, line: &TokenLine<'_>, at: usize) -> Read<Decl>
     ensures { IfOk result (λ o. o ≡ reading.dim_line line.now at) }
 {
     let Some(_) = word_at(line, at) else {
@@ -129,7 +129,7 @@ fn dim_line(alloc: Global, line: &Source<'_>, at: usize) -> Read<Decl>
 
 /// `"PUBLIC" ( "NUMERIC" | "STRING" ) items`
 #[tactic(auto, unfolding(crate::specs::Declaring::kinded_line, bas_form::specs::Reader::built, bas_form::specs::Reader::both, bas_form::specs::Reader::terminal))]
-fn public_line(alloc: Global, line: &Source<'_>, at: usize) -> Read<Decl>
+fn public_line(alloc: Global, line: &TokenLine<'_>, at: usize) -> Read<Decl>
     ensures { IfOk result (λ o. o ≡ reading.kinded_line line.now tree.Public at) }
 {
     let Some(_) = word_at(line, at) else {
@@ -143,7 +143,7 @@ fn public_line(alloc: Global, line: &Source<'_>, at: usize) -> Read<Decl>
 
 /// `"SHARE" ( "NUMERIC" | "STRING" ) items`
 #[tactic(auto, unfolding(crate::specs::Declaring::kinded_line, bas_form::specs::Reader::built, bas_form::specs::Reader::both, bas_form::specs::Reader::terminal))]
-fn share_line(alloc: Global, line: &Source<'_>, at: usize) -> Read<Decl>
+fn share_line(alloc: Global, line: &TokenLine<'_>, at: usize) -> Read<Decl>
     ensures { IfOk result (λ o. o ≡ reading.kinded_line line.now tree.Share at) }
 {
     let Some(_) = word_at(line, at) else {
@@ -157,7 +157,7 @@ fn share_line(alloc: Global, line: &Source<'_>, at: usize) -> Read<Decl>
 
 /// `"PUBLIC" ( "NUMERIC" | "STRING" ) items`
 #[tactic(auto, unfolding(crate::specs::Declaring::public_part, bas_form::specs::Reader::built, bas_form::specs::Reader::both, bas_form::specs::Reader::terminal))]
-fn public_part(alloc: Global, line: &Source<'_>, at: usize) -> Read<(DeclaredKind, Items)>
+fn public_part(alloc: Global, line: &TokenLine<'_>, at: usize) -> Read<(DeclaredKind, Items)>
     ensures { IfOk result (λ o. o ≡ reading.public_part line.now at) }
 {
     let Some(()) = public_word(line, at) else {
@@ -171,7 +171,11 @@ fn public_part(alloc: Global, line: &Source<'_>, at: usize) -> Read<(DeclaredKin
 
 /// `( "SUB" | "FUNCTION" ) name { "," name }`
 #[tactic(auto, unfolding(crate::specs::Declaring::procedure_names, bas_form::specs::Reader::both, bas_form::specs::Reader::terminal))]
-fn procedure_names(alloc: Global, line: &Source<'_>, at: usize) -> Read<(ProcedureKind, Seq<Name>)>
+fn procedure_names(
+    alloc: Global,
+    line: &TokenLine<'_>,
+    at: usize,
+) -> Read<(ProcedureKind, Seq<Name>)>
     ensures { IfOk result (λ o. o ≡ reading.procedure_names line.now at) }
 {
     let Some(kind) = procedure_word(line, at) else {
@@ -185,7 +189,11 @@ fn procedure_names(alloc: Global, line: &Source<'_>, at: usize) -> Read<(Procedu
 
 /// `"EXTERNAL" ( "SUB" | "FUNCTION" ) name { "," name }`
 #[tactic(auto, unfolding(crate::specs::Declaring::external_names, bas_form::specs::Reader::built, bas_form::specs::Reader::both, bas_form::specs::Reader::terminal))]
-fn external_names(alloc: Global, line: &Source<'_>, at: usize) -> Read<(ProcedureKind, Seq<Name>)>
+fn external_names(
+    alloc: Global,
+    line: &TokenLine<'_>,
+    at: usize,
+) -> Read<(ProcedureKind, Seq<Name>)>
     ensures { IfOk result (λ o. o ≡ reading.external_names line.now at) }
 {
     let Some(()) = external_word(line, at) else {
@@ -199,7 +207,7 @@ fn external_names(alloc: Global, line: &Source<'_>, at: usize) -> Read<(Procedur
 
 /// What stands behind `DECLARE` where it names something public or external.
 #[tactic(auto, unfolding(crate::specs::Declaring::public_or_external, bas_form::specs::Reader::either, bas_form::specs::Reader::built))]
-fn public_or_external(alloc: Global, line: &Source<'_>, at: usize) -> Read<Decl>
+fn public_or_external(alloc: Global, line: &TokenLine<'_>, at: usize) -> Read<Decl>
     ensures { IfOk result (λ o. o ≡ reading.public_or_external line.now at) }
 {
     if let Some(((kind, items), after)) = public_part(alloc, line, at)? {
@@ -213,7 +221,7 @@ fn public_or_external(alloc: Global, line: &Source<'_>, at: usize) -> Read<Decl>
 
 /// What stands behind `DECLARE`.
 #[tactic(auto, unfolding(crate::specs::Declaring::declare_part, bas_form::specs::Reader::either, bas_form::specs::Reader::built))]
-fn declare_part(alloc: Global, line: &Source<'_>, at: usize) -> Read<Decl>
+fn declare_part(alloc: Global, line: &TokenLine<'_>, at: usize) -> Read<Decl>
     ensures { IfOk result (λ o. o ≡ reading.declare_part line.now at) }
 {
     match kinded(alloc, line, at)? {
@@ -224,7 +232,7 @@ fn declare_part(alloc: Global, line: &Source<'_>, at: usize) -> Read<Decl>
 
 /// `"DECLARE"` and what is declared.
 #[tactic(auto, unfolding(crate::specs::Declaring::declare_line, bas_form::specs::Reader::built, bas_form::specs::Reader::both, bas_form::specs::Reader::terminal))]
-fn declare_line(alloc: Global, line: &Source<'_>, at: usize) -> Read<Decl>
+fn declare_line(alloc: Global, line: &TokenLine<'_>, at: usize) -> Read<Decl>
     ensures { IfOk result (λ o. o ≡ reading.declare_line line.now at) }
 {
     let Some(_) = word_at(line, at) else {
@@ -238,7 +246,7 @@ fn declare_line(alloc: Global, line: &Source<'_>, at: usize) -> Read<Decl>
 
 /// `"PRIVATE" name { "," name }`
 #[tactic(auto, unfolding(crate::specs::Declaring::private_line, bas_form::specs::Reader::built, bas_form::specs::Reader::both, bas_form::specs::Reader::terminal))]
-fn private_line(alloc: Global, line: &Source<'_>, at: usize) -> Read<Decl>
+fn private_line(alloc: Global, line: &TokenLine<'_>, at: usize) -> Read<Decl>
     ensures { IfOk result (λ o. o ≡ reading.private_line line.now at) }
 {
     let Some(_) = word_at(line, at) else {
@@ -252,7 +260,7 @@ fn private_line(alloc: Global, line: &Source<'_>, at: usize) -> Read<Decl>
 
 /// The longest declaration, other than `DATA`, from a place on.
 #[tactic(auto, unfolding(crate::specs::Declaring::decl_at, bas_form::specs::Reader::dispatched))]
-pub fn decl(alloc: Global, line: &Source<'_>, at: usize) -> Read<Decl>
+pub fn decl(alloc: Global, line: &TokenLine<'_>, at: usize) -> Read<Decl>
     ensures { IfOk result (λ o. o ≡ reading.decl_at line.now at) }
 {
     match word_at(line, at) {

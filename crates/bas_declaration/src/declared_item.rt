@@ -10,14 +10,14 @@ use crate::keyword::to_word;
 use crate::mark::{asterisk, minus};
 use bas_ast::{Bound, DeclaredItem, Items, TypeSpec};
 use bas_base::{Name, Seq};
-use bas_expr::source::Source;
+use bas_expr::TokenLine;
 use std::alloc::{AllocError, Global};
 
 type Read<T> = Result<Option<(T, usize)>, AllocError>;
 
 /// `"*" digits [ "." digits ]`
 #[tactic(auto, unfolding(crate::specs::Declaring::one_type, bas_form::specs::Reader::built, bas_form::specs::Reader::both, bas_form::specs::Reader::terminal))]
-pub fn type_spec(line: &Source<'_>, at: usize) -> Option<(TypeSpec, usize)>
+pub fn type_spec(line: &TokenLine<'_>, at: usize) -> Option<(TypeSpec, usize)>
     ensures { result ≡ reading.one_type line.now at }
 {
     let Some(()) = asterisk(line, at) else {
@@ -41,7 +41,7 @@ fn signed(minus: Option<()>, number: u32) -> i64
 
 /// `[ "-" ] digits`
 #[tactic(auto, unfolding(crate::specs::Declaring::signed, bas_form::specs::Reader::built, bas_form::specs::Reader::both, bas_form::specs::Reader::optional, bas_form::specs::Reader::terminal))]
-fn signed_digits(line: &Source<'_>, at: usize) -> Option<(i64, usize)>
+fn signed_digits(line: &TokenLine<'_>, at: usize) -> Option<(i64, usize)>
     ensures { result ≡ reading.signed line.now at }
 {
     let sign = minus(line, at);
@@ -57,7 +57,7 @@ fn signed_digits(line: &Source<'_>, at: usize) -> Option<(i64, usize)>
 
 /// `"TO" [ "-" ] digits`
 #[tactic(auto, unfolding(crate::specs::Declaring::to_signed, bas_form::specs::Reader::built, bas_form::specs::Reader::both, bas_form::specs::Reader::terminal))]
-fn to_signed(line: &Source<'_>, at: usize) -> Option<(i64, usize)>
+fn to_signed(line: &TokenLine<'_>, at: usize) -> Option<(i64, usize)>
     ensures { result ≡ reading.to_signed line.now at }
 {
     let Some(()) = to_word(line, at) else {
@@ -71,7 +71,7 @@ fn to_signed(line: &Source<'_>, at: usize) -> Option<(i64, usize)>
 
 /// `[ [ "-" ] digits "TO" ] [ "-" ] digits`
 #[tactic(auto, unfolding(crate::specs::Declaring::one_bound, bas_form::specs::Reader::built, bas_form::specs::Reader::both, bas_form::specs::Reader::optional))]
-fn bound(line: &Source<'_>, at: usize) -> Option<(Bound, usize)>
+fn bound(line: &TokenLine<'_>, at: usize) -> Option<(Bound, usize)>
     ensures { result ≡ reading.one_bound line.now at }
 {
     let Some((first, at)) = signed_digits(line, at) else {
@@ -97,7 +97,7 @@ fn bound(line: &Source<'_>, at: usize) -> Option<(Bound, usize)>
 
 /// `"," bound`
 #[tactic(auto, unfolding(bas_form::specs::Reader::built, bas_form::specs::Reader::both, bas_form::specs::Reader::terminal))]
-fn next_bound(line: &Source<'_>, at: usize) -> Option<(Bound, usize)>
+fn next_bound(line: &TokenLine<'_>, at: usize) -> Option<(Bound, usize)>
     ensures { result ≡ reading.next_bound line.now at }
 {
     let Some(()) = line.comma(at) else {
@@ -112,7 +112,7 @@ fn next_bound(line: &Source<'_>, at: usize) -> Option<(Bound, usize)>
 /// `{ "," bound }`
 fn more_bounds(
     alloc: Global,
-    line: &Source<'_>,
+    line: &TokenLine<'_>,
     mut at: usize,
     first: Bound,
 ) -> Result<(Vec<Bound>, usize), AllocError>
@@ -129,7 +129,7 @@ fn more_bounds(
 
 /// `bound { "," bound }`
 #[tactic(auto, unfolding(crate::specs::Declaring::bound_list, bas_form::specs::Reader::built, bas_form::specs::Reader::both, bas_form::specs::Reader::repeated))]
-fn bound_list(alloc: Global, line: &Source<'_>, at: usize) -> Read<Seq<Bound>>
+fn bound_list(alloc: Global, line: &TokenLine<'_>, at: usize) -> Read<Seq<Bound>>
     ensures { IfOk result (λ o. o ≡ reading.bound_list line.now at) }
 {
     let Some((first, after)) = bound(line, at) else {
@@ -141,7 +141,7 @@ fn bound_list(alloc: Global, line: &Source<'_>, at: usize) -> Read<Seq<Bound>>
 
 /// `"(" bound { "," bound } ")"`
 #[tactic(auto, unfolding(crate::specs::Declaring::bounds, bas_form::specs::Reader::built, bas_form::specs::Reader::both, bas_form::specs::Reader::terminal))]
-fn bounds(alloc: Global, line: &Source<'_>, at: usize) -> Read<Seq<Bound>>
+fn bounds(alloc: Global, line: &TokenLine<'_>, at: usize) -> Read<Seq<Bound>>
     ensures { IfOk result (λ o. o ≡ reading.bounds line.now at) }
 {
     let Some(()) = line.opening(at) else {
@@ -167,7 +167,7 @@ fn bounds_or_none(alloc: Global, bounds: Option<Seq<Bound>>) -> Seq<Bound>
 
 /// `name [ "(" bound { "," bound } ")" ]`
 #[tactic(auto, unfolding(crate::specs::Declaring::dimensioned, bas_form::specs::Reader::both, bas_form::specs::Reader::optional, bas_form::specs::Reader::terminal))]
-fn dimensioned(alloc: Global, line: &Source<'_>, at: usize) -> Read<(Name, Option<Seq<Bound>>)>
+fn dimensioned(alloc: Global, line: &TokenLine<'_>, at: usize) -> Read<(Name, Option<Seq<Bound>>)>
     ensures { IfOk result (λ o. o ≡ reading.dimensioned line.now at) }
 {
     let Some(name) = line.own_name(at) else {
@@ -182,7 +182,7 @@ fn dimensioned(alloc: Global, line: &Source<'_>, at: usize) -> Read<(Name, Optio
 
 /// `name [ "(" bound { "," bound } ")" ] [ type ]`
 #[tactic(auto, unfolding(crate::specs::Declaring::one_declared, bas_form::specs::Reader::built, bas_form::specs::Reader::both, bas_form::specs::Reader::optional))]
-fn declared(alloc: Global, line: &Source<'_>, at: usize) -> Read<DeclaredItem>
+fn declared(alloc: Global, line: &TokenLine<'_>, at: usize) -> Read<DeclaredItem>
     ensures { IfOk result (λ o. o ≡ reading.one_declared line.now at) }
 {
     let Some(((name, bounds), at)) = dimensioned(alloc, line, at)? else {
@@ -211,7 +211,7 @@ fn declared(alloc: Global, line: &Source<'_>, at: usize) -> Read<DeclaredItem>
 
 /// `"," item`
 #[tactic(auto, unfolding(bas_form::specs::Reader::built, bas_form::specs::Reader::both, bas_form::specs::Reader::terminal))]
-fn next_declared(alloc: Global, line: &Source<'_>, at: usize) -> Read<DeclaredItem>
+fn next_declared(alloc: Global, line: &TokenLine<'_>, at: usize) -> Read<DeclaredItem>
     ensures { IfOk result (λ o. o ≡ reading.next_declared line.now at) }
 {
     let Some(()) = line.comma(at) else {
@@ -226,7 +226,7 @@ fn next_declared(alloc: Global, line: &Source<'_>, at: usize) -> Read<DeclaredIt
 /// `{ "," item }`
 fn more_declared(
     alloc: Global,
-    line: &Source<'_>,
+    line: &TokenLine<'_>,
     mut at: usize,
     first: DeclaredItem,
 ) -> Result<(Vec<DeclaredItem>, usize), AllocError>
@@ -243,7 +243,7 @@ fn more_declared(
 
 /// `item { "," item }`
 #[tactic(auto, unfolding(crate::specs::Declaring::declared_list, bas_form::specs::Reader::built, bas_form::specs::Reader::both, bas_form::specs::Reader::repeated))]
-fn declared_list(alloc: Global, line: &Source<'_>, at: usize) -> Read<Seq<DeclaredItem>>
+fn declared_list(alloc: Global, line: &TokenLine<'_>, at: usize) -> Read<Seq<DeclaredItem>>
     ensures { IfOk result (λ o. o ≡ reading.declared_list line.now at) }
 {
     let Some((first, after)) = declared(alloc, line, at)? else {
@@ -255,7 +255,7 @@ fn declared_list(alloc: Global, line: &Source<'_>, at: usize) -> Read<Seq<Declar
 
 /// `item { "," item }`
 #[tactic(auto, unfolding(crate::specs::Declaring::items, bas_form::specs::Reader::built))]
-pub fn items(alloc: Global, line: &Source<'_>, at: usize) -> Read<Items>
+pub fn items(alloc: Global, line: &TokenLine<'_>, at: usize) -> Read<Items>
     ensures { IfOk result (λ o. o ≡ reading.items line.now at) }
 {
     let Some((items, after)) = declared_list(alloc, line, at)? else {
@@ -266,7 +266,7 @@ pub fn items(alloc: Global, line: &Source<'_>, at: usize) -> Read<Items>
 
 /// `"," name`
 #[tactic(auto, unfolding(bas_form::specs::Reader::built, bas_form::specs::Reader::both, bas_form::specs::Reader::terminal))]
-fn next_name(line: &Source<'_>, at: usize) -> Option<(Name, usize)>
+fn next_name(line: &TokenLine<'_>, at: usize) -> Option<(Name, usize)>
     ensures { result ≡ reading.next_name line.now at }
 {
     let Some(()) = line.comma(at) else {
@@ -282,7 +282,7 @@ fn next_name(line: &Source<'_>, at: usize) -> Option<(Name, usize)>
 /// `{ "," name }`
 fn more_names(
     alloc: Global,
-    line: &Source<'_>,
+    line: &TokenLine<'_>,
     mut at: usize,
     first: Name,
 ) -> Result<(Vec<Name>, usize), AllocError>
@@ -299,7 +299,7 @@ fn more_names(
 
 /// `name { "," name }`
 #[tactic(auto, unfolding(crate::specs::Declaring::names, bas_form::specs::Reader::built, bas_form::specs::Reader::both, bas_form::specs::Reader::repeated, bas_form::specs::Reader::terminal))]
-pub fn names(alloc: Global, line: &Source<'_>, at: usize) -> Read<Seq<Name>>
+pub fn names(alloc: Global, line: &TokenLine<'_>, at: usize) -> Read<Seq<Name>>
     ensures { IfOk result (λ o. o ≡ reading.names line.now at) }
 {
     let Some(first) = line.own_name(at) else {

@@ -6,7 +6,7 @@ ghost use Rattle.std.specs.Char.{is_ascii_digit};
 ghost use Rattle.bas_declaration.specs.Digits as digits;
 
 use bas_ast::{Decl, TypeSpec};
-use bas_expr::source::Source;
+use bas_expr::TokenLine;
 use bas_token::TokenKind;
 
 /// The greatest number that digits stand for; what is greater is held as it.
@@ -95,7 +95,7 @@ fn base_of_text(text: &[u8]) -> Option<Decl>
 
 /// The digits at a place.
 #[tactic(auto, unfolding(crate::specs::Digits::digits, bas_form::specs::Element::element_at))]
-pub fn digits(line: &Source<'_>, at: usize) -> Option<u32>
+pub fn digits(line: &TokenLine<'_>, at: usize) -> Option<u32>
     ensures value { result ≡ digits.digits line.now at }
     ensures within { IfSome result (λ _. at < 4096) }
 {
@@ -107,7 +107,7 @@ pub fn digits(line: &Source<'_>, at: usize) -> Option<u32>
 
 /// The digits of a type at a place.
 #[tactic(auto, unfolding(crate::specs::Digits::size, bas_form::specs::Element::element_at))]
-pub fn size(line: &Source<'_>, at: usize) -> Option<TypeSpec>
+pub fn size(line: &TokenLine<'_>, at: usize) -> Option<TypeSpec>
     ensures value { result ≡ digits.size line.now at }
     ensures within { IfSome result (λ _. at < 4096) }
 {
@@ -119,7 +119,7 @@ pub fn size(line: &Source<'_>, at: usize) -> Option<TypeSpec>
 
 /// The lowest index that an `OPTION` line gives, at a place.
 #[tactic(auto, unfolding(crate::specs::Digits::base, bas_form::specs::Element::element_at))]
-pub fn base(line: &Source<'_>, at: usize) -> Option<Decl>
+pub fn base(line: &TokenLine<'_>, at: usize) -> Option<Decl>
     ensures value { result ≡ digits.base line.now at }
     ensures within { IfSome result (λ _. at < 4096) }
 {

@@ -10,13 +10,13 @@ ghost use Rattle.bas_declaration.specs.Reading as reading;
 use crate::digits::digits;
 use bas_ast::{Formal, Formals};
 use bas_base::{Name, Seq};
-use bas_expr::source::Source;
+use bas_expr::TokenLine;
 use std::alloc::{AllocError, Global};
 
 type Read<T> = Result<Option<(T, usize)>, AllocError>;
 
 /// The number of commas that stand from a place on, and the place behind them.
-fn count_commas(line: &Source<'_>, mut at: usize) -> (u32, usize)
+fn count_commas(line: &TokenLine<'_>, mut at: usize) -> (u32, usize)
     requires { at ≤ 4096 }
     ensures count { result.0 ≡ length (all_from (terminal (at_mark comma line.now)) (length line.now) at).0 }
     ensures end { result.1 ≡ (all_from (terminal (at_mark comma line.now)) (length line.now) at).1 }
@@ -32,7 +32,7 @@ fn count_commas(line: &Source<'_>, mut at: usize) -> (u32, usize)
 
 /// `"(" { "," } ")"`, with the number of commas.
 #[tactic(auto, unfolding(crate::specs::Reading::commas, bas_form::specs::Reader::built, bas_form::specs::Reader::both, bas_form::specs::Reader::terminal, bas_form::specs::Reader::repeated))]
-fn commas(line: &Source<'_>, at: usize) -> Option<(u32, usize)>
+fn commas(line: &TokenLine<'_>, at: usize) -> Option<(u32, usize)>
     ensures value { result ≡ option_map reading.counted (reading.commas line.now at) }
     ensures few { IfSome result (λ r. r.0 ≤ 4096) }
 {
@@ -48,7 +48,7 @@ fn commas(line: &Source<'_>, at: usize) -> Option<(u32, usize)>
 
 /// `name [ "(" { "," } ")" ]`
 #[tactic(auto, unfolding(crate::specs::Reading::name_formal, bas_form::specs::Reader::built, bas_form::specs::Reader::both, bas_form::specs::Reader::optional, bas_form::specs::Reader::terminal))]
-fn name_formal(line: &Source<'_>, at: usize) -> Option<(Formal, usize)>
+fn name_formal(line: &TokenLine<'_>, at: usize) -> Option<(Formal, usize)>
     ensures { result ≡ reading.name_formal line.now at }
 {
     let Some(name) = line.own_name(at) else {
@@ -63,7 +63,7 @@ fn name_formal(line: &Source<'_>, at: usize) -> Option<(Formal, usize)>
 
 /// `"#" digits`
 #[tactic(auto, unfolding(crate::specs::Reading::chan_formal, bas_form::specs::Reader::built, bas_form::specs::Reader::both, bas_form::specs::Reader::terminal))]
-fn chan_formal(line: &Source<'_>, at: usize) -> Option<(Formal, usize)>
+fn chan_formal(line: &TokenLine<'_>, at: usize) -> Option<(Formal, usize)>
     ensures { result ≡ reading.chan_formal line.now at }
 {
     let Some(()) = line.hash(at) else {
@@ -78,7 +78,7 @@ fn chan_formal(line: &Source<'_>, at: usize) -> Option<(Formal, usize)>
 
 /// `name [ "(" { "," } ")" ] | "#" digits`
 #[tactic(auto, unfolding(crate::specs::Reading::one_formal, bas_form::specs::Reader::either))]
-fn formal(line: &Source<'_>, at: usize) -> Option<(Formal, usize)>
+fn formal(line: &TokenLine<'_>, at: usize) -> Option<(Formal, usize)>
     ensures { result ≡ reading.one_formal line.now at }
 {
     match name_formal(line, at) {
@@ -89,7 +89,7 @@ fn formal(line: &Source<'_>, at: usize) -> Option<(Formal, usize)>
 
 /// `"," formal`
 #[tactic(auto, unfolding(bas_form::specs::Reader::built, bas_form::specs::Reader::both, bas_form::specs::Reader::terminal))]
-fn next_formal(line: &Source<'_>, at: usize) -> Option<(Formal, usize)>
+fn next_formal(line: &TokenLine<'_>, at: usize) -> Option<(Formal, usize)>
     ensures { result ≡ reading.next_formal line.now at }
 {
     let Some(()) = line.comma(at) else {
@@ -104,7 +104,7 @@ fn next_formal(line: &Source<'_>, at: usize) -> Option<(Formal, usize)>
 /// `{ "," formal }`
 fn more_formals(
     alloc: Global,
-    line: &Source<'_>,
+    line: &TokenLine<'_>,
     mut at: usize,
     first: Formal,
 ) -> Result<(Vec<Formal>, usize), AllocError>
@@ -121,7 +121,7 @@ fn more_formals(
 
 /// `formal { "," formal }`
 #[tactic(auto, unfolding(crate::specs::Reading::formal_list, bas_form::specs::Reader::built, bas_form::specs::Reader::both, bas_form::specs::Reader::repeated))]
-fn formal_list(alloc: Global, line: &Source<'_>, at: usize) -> Read<Seq<Formal>>
+fn formal_list(alloc: Global, line: &TokenLine<'_>, at: usize) -> Read<Seq<Formal>>
     ensures { IfOk result (λ o. o ≡ reading.formal_list line.now at) }
 {
     let Some((first, after)) = formal(line, at) else {
@@ -133,7 +133,7 @@ fn formal_list(alloc: Global, line: &Source<'_>, at: usize) -> Read<Seq<Formal>>
 
 /// `"(" formal { "," formal } ")"`
 #[tactic(auto, unfolding(crate::specs::Reading::formals, bas_form::specs::Reader::built, bas_form::specs::Reader::both, bas_form::specs::Reader::terminal))]
-fn formals(alloc: Global, line: &Source<'_>, at: usize) -> Read<Seq<Formal>>
+fn formals(alloc: Global, line: &TokenLine<'_>, at: usize) -> Read<Seq<Formal>>
     ensures { IfOk result (λ o. o ≡ reading.formals line.now at) }
 {
     let Some(()) = line.opening(at) else {
@@ -158,7 +158,7 @@ fn no_formals(alloc: Global) -> Formals
 
 /// `name [ formals ]`
 #[tactic(auto, unfolding(crate::specs::Reading::heading, bas_form::specs::Reader::built, bas_form::specs::Reader::both, bas_form::specs::Reader::optional, bas_form::specs::Reader::terminal))]
-pub fn heading(alloc: Global, line: &Source<'_>, at: usize) -> Read<(Name, Formals)>
+pub fn heading(alloc: Global, line: &TokenLine<'_>, at: usize) -> Read<(Name, Formals)>
     ensures { IfOk result (λ o. o ≡ reading.heading line.now at) }
 {
     let Some(name) = line.own_name(at) else {

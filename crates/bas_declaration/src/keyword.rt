@@ -4,7 +4,7 @@ ghost use Rattle.std.specs.Prelude.{◌≡◌, ◌<◌, IfSome};
 ghost use Rattle.bas_declaration.specs.Keywords as words;
 
 use bas_ast::{DeclaredKind, Part, ProcedureKind};
-use bas_expr::source::Source;
+use bas_expr::TokenLine;
 use bas_token::TokenKind;
 
 /// A word that has a meaning in such a line.
@@ -186,7 +186,7 @@ pub fn keyword_of_text(text: &[u8]) -> Option<Keyword>
 
 /// The word at a place.
 #[tactic(auto, unfolding(crate::specs::Keywords::keyword, bas_expr::specs::Words::connective, bas_form::specs::Element::element_at))]
-pub fn word_at(line: &Source<'_>, at: usize) -> Option<Keyword>
+pub fn word_at(line: &TokenLine<'_>, at: usize) -> Option<Keyword>
     ensures value { result ≡ words.keyword line.now at }
     ensures within { IfSome result (λ _. at < 4096) }
 {
@@ -201,7 +201,7 @@ pub fn word_at(line: &Source<'_>, at: usize) -> Option<Keyword>
 
 /// The word at a place, where it spells this text in any case.
 #[tactic(auto, unfolding(crate::specs::Keywords::spells, bas_form::specs::Element::element_at))]
-pub fn spells(line: &Source<'_>, at: usize, wanted: &[u8]) -> Option<()>
+pub fn spells(line: &TokenLine<'_>, at: usize, wanted: &[u8]) -> Option<()>
     ensures value { result ≡ words.spells wanted.now line.now at }
     ensures within { IfSome result (λ _. at < 4096) }
 {
@@ -212,7 +212,7 @@ pub fn spells(line: &Source<'_>, at: usize, wanted: &[u8]) -> Option<()>
 }
 
 /// The `THEN` at a place.
-pub fn then_word(line: &Source<'_>, at: usize) -> Option<()>
+pub fn then_word(line: &TokenLine<'_>, at: usize) -> Option<()>
     ensures value { result ≡ words.at_word words.then_word line.now at }
     ensures within { IfSome result (λ _. at < 4096) }
 {
@@ -223,7 +223,7 @@ pub fn then_word(line: &Source<'_>, at: usize) -> Option<()>
 }
 
 /// The `TO` at a place.
-pub fn to_word(line: &Source<'_>, at: usize) -> Option<()>
+pub fn to_word(line: &TokenLine<'_>, at: usize) -> Option<()>
     ensures value { result ≡ words.at_word words.to_word line.now at }
     ensures within { IfSome result (λ _. at < 4096) }
 {
@@ -234,7 +234,7 @@ pub fn to_word(line: &Source<'_>, at: usize) -> Option<()>
 }
 
 /// The `STEP` at a place.
-pub fn step_word(line: &Source<'_>, at: usize) -> Option<()>
+pub fn step_word(line: &TokenLine<'_>, at: usize) -> Option<()>
     ensures value { result ≡ words.at_word words.step_word line.now at }
     ensures within { IfSome result (λ _. at < 4096) }
 {
@@ -245,7 +245,7 @@ pub fn step_word(line: &Source<'_>, at: usize) -> Option<()>
 }
 
 /// The `CASE` at a place.
-pub fn case_word(line: &Source<'_>, at: usize) -> Option<()>
+pub fn case_word(line: &TokenLine<'_>, at: usize) -> Option<()>
     ensures value { result ≡ words.at_word words.case_word line.now at }
     ensures within { IfSome result (λ _. at < 4096) }
 {
@@ -256,7 +256,7 @@ pub fn case_word(line: &Source<'_>, at: usize) -> Option<()>
 }
 
 /// The `ELSE` at a place.
-pub fn else_word(line: &Source<'_>, at: usize) -> Option<()>
+pub fn else_word(line: &TokenLine<'_>, at: usize) -> Option<()>
     ensures value { result ≡ words.at_word words.else_word line.now at }
     ensures within { IfSome result (λ _. at < 4096) }
 {
@@ -267,7 +267,7 @@ pub fn else_word(line: &Source<'_>, at: usize) -> Option<()>
 }
 
 /// The `IS` at a place.
-pub fn is_word(line: &Source<'_>, at: usize) -> Option<()>
+pub fn is_word(line: &TokenLine<'_>, at: usize) -> Option<()>
     ensures value { result ≡ words.at_word words.is_word line.now at }
     ensures within { IfSome result (λ _. at < 4096) }
 {
@@ -278,7 +278,7 @@ pub fn is_word(line: &Source<'_>, at: usize) -> Option<()>
 }
 
 /// The `EXCEPTION` at a place.
-pub fn exception_word(line: &Source<'_>, at: usize) -> Option<()>
+pub fn exception_word(line: &TokenLine<'_>, at: usize) -> Option<()>
     ensures value { result ≡ words.at_word words.exception_word line.now at }
     ensures within { IfSome result (λ _. at < 4096) }
 {
@@ -289,7 +289,7 @@ pub fn exception_word(line: &Source<'_>, at: usize) -> Option<()>
 }
 
 /// The `IN` at a place.
-pub fn in_word(line: &Source<'_>, at: usize) -> Option<()>
+pub fn in_word(line: &TokenLine<'_>, at: usize) -> Option<()>
     ensures value { result ≡ words.at_word words.in_word line.now at }
     ensures within { IfSome result (λ _. at < 4096) }
 {
@@ -300,7 +300,7 @@ pub fn in_word(line: &Source<'_>, at: usize) -> Option<()>
 }
 
 /// The `USE` at a place.
-pub fn use_word(line: &Source<'_>, at: usize) -> Option<()>
+pub fn use_word(line: &TokenLine<'_>, at: usize) -> Option<()>
     ensures value { result ≡ words.at_word words.use_word line.now at }
     ensures within { IfSome result (λ _. at < 4096) }
 {
@@ -311,7 +311,7 @@ pub fn use_word(line: &Source<'_>, at: usize) -> Option<()>
 }
 
 /// The `BASE` at a place.
-pub fn base_word(line: &Source<'_>, at: usize) -> Option<()>
+pub fn base_word(line: &TokenLine<'_>, at: usize) -> Option<()>
     ensures value { result ≡ words.at_word words.base_word line.now at }
     ensures within { IfSome result (λ _. at < 4096) }
 {
@@ -322,7 +322,7 @@ pub fn base_word(line: &Source<'_>, at: usize) -> Option<()>
 }
 
 /// The `ARITHMETIC` at a place.
-pub fn arithmetic_word(line: &Source<'_>, at: usize) -> Option<()>
+pub fn arithmetic_word(line: &TokenLine<'_>, at: usize) -> Option<()>
     ensures value { result ≡ words.at_word words.arithmetic_word line.now at }
     ensures within { IfSome result (λ _. at < 4096) }
 {
@@ -333,7 +333,7 @@ pub fn arithmetic_word(line: &Source<'_>, at: usize) -> Option<()>
 }
 
 /// The `DECIMAL` at a place.
-pub fn decimal_word(line: &Source<'_>, at: usize) -> Option<()>
+pub fn decimal_word(line: &TokenLine<'_>, at: usize) -> Option<()>
     ensures value { result ≡ words.at_word words.decimal_word line.now at }
     ensures within { IfSome result (λ _. at < 4096) }
 {
@@ -344,7 +344,7 @@ pub fn decimal_word(line: &Source<'_>, at: usize) -> Option<()>
 }
 
 /// The `FIXED` at a place.
-pub fn fixed_word(line: &Source<'_>, at: usize) -> Option<()>
+pub fn fixed_word(line: &TokenLine<'_>, at: usize) -> Option<()>
     ensures value { result ≡ words.at_word words.fixed_word line.now at }
     ensures within { IfSome result (λ _. at < 4096) }
 {
@@ -355,7 +355,7 @@ pub fn fixed_word(line: &Source<'_>, at: usize) -> Option<()>
 }
 
 /// The `PUBLIC` at a place.
-pub fn public_word(line: &Source<'_>, at: usize) -> Option<()>
+pub fn public_word(line: &TokenLine<'_>, at: usize) -> Option<()>
     ensures value { result ≡ words.at_word words.public_word line.now at }
     ensures within { IfSome result (λ _. at < 4096) }
 {
@@ -366,7 +366,7 @@ pub fn public_word(line: &Source<'_>, at: usize) -> Option<()>
 }
 
 /// The `EXTERNAL` at a place.
-pub fn external_word(line: &Source<'_>, at: usize) -> Option<()>
+pub fn external_word(line: &TokenLine<'_>, at: usize) -> Option<()>
     ensures value { result ≡ words.at_word words.external_word line.now at }
     ensures within { IfSome result (λ _. at < 4096) }
 {
@@ -377,7 +377,7 @@ pub fn external_word(line: &Source<'_>, at: usize) -> Option<()>
 }
 
 /// `"WHILE" | "UNTIL"`
-pub fn turn_word(line: &Source<'_>, at: usize) -> Option<LoopWord>
+pub fn turn_word(line: &TokenLine<'_>, at: usize) -> Option<LoopWord>
     ensures value { result ≡ words.at_word words.turn_word line.now at }
     ensures within { IfSome result (λ _. at < 4096) }
 {
@@ -389,7 +389,7 @@ pub fn turn_word(line: &Source<'_>, at: usize) -> Option<LoopWord>
 }
 
 /// `"SUB" | "FUNCTION"`
-pub fn procedure_word(line: &Source<'_>, at: usize) -> Option<ProcedureKind>
+pub fn procedure_word(line: &TokenLine<'_>, at: usize) -> Option<ProcedureKind>
     ensures value { result ≡ words.at_word words.procedure_word line.now at }
     ensures within { IfSome result (λ _. at < 4096) }
 {
@@ -401,7 +401,7 @@ pub fn procedure_word(line: &Source<'_>, at: usize) -> Option<ProcedureKind>
 }
 
 /// `"NUMERIC" | "STRING"`
-pub fn kind_word(line: &Source<'_>, at: usize) -> Option<DeclaredKind>
+pub fn kind_word(line: &TokenLine<'_>, at: usize) -> Option<DeclaredKind>
     ensures value { result ≡ words.at_word words.kind_word line.now at }
     ensures within { IfSome result (λ _. at < 4096) }
 {
@@ -413,7 +413,7 @@ pub fn kind_word(line: &Source<'_>, at: usize) -> Option<DeclaredKind>
 }
 
 /// What `END` closes, where the word at a place, behind it, says so.
-pub fn closed_word(line: &Source<'_>, at: usize) -> Option<Part>
+pub fn closed_word(line: &TokenLine<'_>, at: usize) -> Option<Part>
     ensures value { result ≡ words.at_word words.closed_word line.now at }
     ensures within { IfSome result (λ _. at < 4096) }
 {

@@ -15,13 +15,8 @@ mod law;
 mod loop_line;
 mod mark;
 mod part_line;
-#[cfg(test)]
-mod tests;
 mod unit_line;
 
 pub use declaration::decl;
 pub use law::{decl_law, part_law};
 pub use part_line::part;
-
-/// The most parentheses that are open at a place, and one.
-pub const LEVELS: usize = 65;

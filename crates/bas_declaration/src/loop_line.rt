@@ -5,28 +5,25 @@ ghost use Rattle.bas_ast.specs.declared.part.Part.TheVariants as tree;
 ghost use Rattle.bas_declaration.specs.Parts as grammar;
 ghost use Rattle.bas_declaration.specs.Reading as reading;
 
-use crate::LEVELS;
 use crate::keyword::{
     LoopWord, case_word, closed_word, step_word, then_word, to_word, turn_word, word_at,
 };
 use crate::mark::equals;
 use bas_ast::{Cond, Expr, Loopc, Part};
-use bas_expr::condition::cond;
-use bas_expr::expression::expr;
-use bas_expr::source::Source;
+use bas_expr::{LEVELS, TokenLine, longest_cond, longest_expr};
 use std::alloc::{AllocError, Global};
 
 type Read<T> = Result<Option<(T, usize)>, AllocError>;
 
 /// `"IF" cond "THEN"`
 #[tactic(auto, unfolding(crate::specs::Reading::tested, bas_form::specs::Reader::built, bas_form::specs::Reader::both, bas_form::specs::Reader::terminal))]
-pub fn if_line(alloc: Global, line: &Source<'_>, at: usize) -> Read<Part>
+pub fn if_line(alloc: Global, line: &TokenLine<'_>, at: usize) -> Read<Part>
     ensures { IfOk result (λ o. o ≡ reading.tested line.now tree.If at) }
 {
     let Some(_) = word_at(line, at) else {
         return Ok(None);
     };
-    let Some((test, after)) = cond(alloc, line, at + 1, LEVELS)? else {
+    let Some((test, after)) = longest_cond(alloc, line, at + 1, LEVELS)? else {
         return Ok(None);
     };
     let Some(()) = then_word(line, after) else {
@@ -37,13 +34,13 @@ pub fn if_line(alloc: Global, line: &Source<'_>, at: usize) -> Read<Part>
 
 /// `"ELSEIF" cond "THEN"`
 #[tactic(auto, unfolding(crate::specs::Reading::tested, bas_form::specs::Reader::built, bas_form::specs::Reader::both, bas_form::specs::Reader::terminal))]
-pub fn elseif_line(alloc: Global, line: &Source<'_>, at: usize) -> Read<Part>
+pub fn elseif_line(alloc: Global, line: &TokenLine<'_>, at: usize) -> Read<Part>
     ensures { IfOk result (λ o. o ≡ reading.tested line.now tree.Elseif at) }
 {
     let Some(_) = word_at(line, at) else {
         return Ok(None);
     };
-    let Some((test, after)) = cond(alloc, line, at + 1, LEVELS)? else {
+    let Some((test, after)) = longest_cond(alloc, line, at + 1, LEVELS)? else {
         return Ok(None);
     };
     let Some(()) = then_word(line, after) else {
@@ -63,13 +60,13 @@ fn loopc(word: LoopWord, test: Cond) -> Loopc
 
 /// `( "WHILE" | "UNTIL" ) cond`
 #[tactic(auto, unfolding(crate::specs::Reading::loop_cond, bas_form::specs::Reader::built, bas_form::specs::Reader::both, bas_form::specs::Reader::terminal))]
-fn loop_cond(alloc: Global, line: &Source<'_>, at: usize) -> Read<Loopc>
+fn loop_cond(alloc: Global, line: &TokenLine<'_>, at: usize) -> Read<Loopc>
     ensures { IfOk result (λ o. o ≡ reading.loop_cond line.now at) }
 {
     let Some(word) = turn_word(line, at) else {
         return Ok(None);
     };
-    let Some((test, after)) = cond(alloc, line, at + 1, LEVELS)? else {
+    let Some((test, after)) = longest_cond(alloc, line, at + 1, LEVELS)? else {
         return Ok(None);
     };
     Ok(Some((loopc(word, test), after)))
@@ -77,7 +74,7 @@ fn loop_cond(alloc: Global, line: &Source<'_>, at: usize) -> Read<Loopc>
 
 /// `"DO" [ loopc ]`
 #[tactic(auto, unfolding(crate::specs::Reading::looping, bas_form::specs::Reader::built, bas_form::specs::Reader::both, bas_form::specs::Reader::optional, bas_form::specs::Reader::terminal))]
-pub fn do_line(alloc: Global, line: &Source<'_>, at: usize) -> Read<Part>
+pub fn do_line(alloc: Global, line: &TokenLine<'_>, at: usize) -> Read<Part>
     ensures { IfOk result (λ o. o ≡ reading.looping line.now tree.Do at) }
 {
     let Some(_) = word_at(line, at) else {
@@ -91,7 +88,7 @@ pub fn do_line(alloc: Global, line: &Source<'_>, at: usize) -> Read<Part>
 
 /// `"LOOP" [ loopc ]`
 #[tactic(auto, unfolding(crate::specs::Reading::looping, bas_form::specs::Reader::built, bas_form::specs::Reader::both, bas_form::specs::Reader::optional, bas_form::specs::Reader::terminal))]
-pub fn loop_line(alloc: Global, line: &Source<'_>, at: usize) -> Read<Part>
+pub fn loop_line(alloc: Global, line: &TokenLine<'_>, at: usize) -> Read<Part>
     ensures { IfOk result (λ o. o ≡ reading.looping line.now tree.Loop at) }
 {
     let Some(_) = word_at(line, at) else {
@@ -105,13 +102,13 @@ pub fn loop_line(alloc: Global, line: &Source<'_>, at: usize) -> Read<Part>
 
 /// `"STEP" expr`
 #[tactic(auto, unfolding(crate::specs::Reading::step, bas_form::specs::Reader::built, bas_form::specs::Reader::both, bas_form::specs::Reader::terminal))]
-fn step(alloc: Global, line: &Source<'_>, at: usize) -> Read<Expr>
+fn step(alloc: Global, line: &TokenLine<'_>, at: usize) -> Read<Expr>
     ensures { IfOk result (λ o. o ≡ reading.step line.now at) }
 {
     let Some(()) = step_word(line, at) else {
         return Ok(None);
     };
-    let Some((value, after)) = expr(alloc, line, at + 1, LEVELS)? else {
+    let Some((value, after)) = longest_expr(alloc, line, at + 1, LEVELS)? else {
         return Ok(None);
     };
     Ok(Some((value, after)))
@@ -119,7 +116,7 @@ fn step(alloc: Global, line: &Source<'_>, at: usize) -> Read<Expr>
 
 /// `"FOR" name "=" expr "TO" expr [ "STEP" expr ]`
 #[tactic(auto, unfolding(crate::specs::Reading::for_line, bas_form::specs::Reader::built, bas_form::specs::Reader::both, bas_form::specs::Reader::optional, bas_form::specs::Reader::terminal))]
-pub fn for_line(alloc: Global, line: &Source<'_>, at: usize) -> Read<Part>
+pub fn for_line(alloc: Global, line: &TokenLine<'_>, at: usize) -> Read<Part>
     ensures { IfOk result (λ o. o ≡ reading.for_line line.now at) }
 {
     let Some(_) = word_at(line, at) else {
@@ -133,13 +130,13 @@ pub fn for_line(alloc: Global, line: &Source<'_>, at: usize) -> Read<Part>
     let Some(()) = equals(line, at) else {
         return Ok(None);
     };
-    let Some((start, at)) = expr(alloc, line, at + 1, LEVELS)? else {
+    let Some((start, at)) = longest_expr(alloc, line, at + 1, LEVELS)? else {
         return Ok(None);
     };
     let Some(()) = to_word(line, at) else {
         return Ok(None);
     };
-    let Some((limit, at)) = expr(alloc, line, at + 1, LEVELS)? else {
+    let Some((limit, at)) = longest_expr(alloc, line, at + 1, LEVELS)? else {
         return Ok(None);
     };
     match step(alloc, line, at)? {
@@ -166,7 +163,7 @@ pub fn for_line(alloc: Global, line: &Source<'_>, at: usize) -> Read<Part>
 
 /// `"NEXT" name`
 #[tactic(auto, unfolding(crate::specs::Reading::named, bas_form::specs::Reader::built, bas_form::specs::Reader::both, bas_form::specs::Reader::terminal))]
-pub fn next_line(line: &Source<'_>, at: usize) -> Option<(Part, usize)>
+pub fn next_line(line: &TokenLine<'_>, at: usize) -> Option<(Part, usize)>
     ensures { result ≡ reading.named line.now tree.Next at }
 {
     let Some(_) = word_at(line, at) else {
@@ -181,7 +178,7 @@ pub fn next_line(line: &Source<'_>, at: usize) -> Option<(Part, usize)>
 
 /// `"HANDLER" name`
 #[tactic(auto, unfolding(crate::specs::Reading::named, bas_form::specs::Reader::built, bas_form::specs::Reader::both, bas_form::specs::Reader::terminal))]
-pub fn handler_line(line: &Source<'_>, at: usize) -> Option<(Part, usize)>
+pub fn handler_line(line: &TokenLine<'_>, at: usize) -> Option<(Part, usize)>
     ensures { result ≡ reading.named line.now tree.Handler at }
 {
     let Some(_) = word_at(line, at) else {
@@ -196,7 +193,7 @@ pub fn handler_line(line: &Source<'_>, at: usize) -> Option<(Part, usize)>
 
 /// `"MODULE" name`
 #[tactic(auto, unfolding(crate::specs::Reading::named, bas_form::specs::Reader::built, bas_form::specs::Reader::both, bas_form::specs::Reader::terminal))]
-pub fn module_line(line: &Source<'_>, at: usize) -> Option<(Part, usize)>
+pub fn module_line(line: &TokenLine<'_>, at: usize) -> Option<(Part, usize)>
     ensures { result ≡ reading.named line.now tree.Module at }
 {
     let Some(_) = word_at(line, at) else {
@@ -211,7 +208,7 @@ pub fn module_line(line: &Source<'_>, at: usize) -> Option<(Part, usize)>
 
 /// `"SELECT" "CASE" expr`
 #[tactic(auto, unfolding(crate::specs::Reading::select_line, bas_form::specs::Reader::built, bas_form::specs::Reader::both, bas_form::specs::Reader::terminal))]
-pub fn select_line(alloc: Global, line: &Source<'_>, at: usize) -> Read<Part>
+pub fn select_line(alloc: Global, line: &TokenLine<'_>, at: usize) -> Read<Part>
     ensures { IfOk result (λ o. o ≡ reading.select_line line.now at) }
 {
     let Some(_) = word_at(line, at) else {
@@ -221,7 +218,7 @@ pub fn select_line(alloc: Global, line: &Source<'_>, at: usize) -> Read<Part>
     let Some(()) = case_word(line, at) else {
         return Ok(None);
     };
-    let Some((selector, after)) = expr(alloc, line, at + 1, LEVELS)? else {
+    let Some((selector, after)) = longest_expr(alloc, line, at + 1, LEVELS)? else {
         return Ok(None);
     };
     Ok(Some((Part::SelectCase(selector), after)))
@@ -229,7 +226,7 @@ pub fn select_line(alloc: Global, line: &Source<'_>, at: usize) -> Read<Part>
 
 /// `"ELSE"`
 #[tactic(auto, unfolding(crate::specs::Reading::alone, bas_form::specs::Reader::built, bas_form::specs::Reader::terminal))]
-pub fn else_line(line: &Source<'_>, at: usize) -> Option<(Part, usize)>
+pub fn else_line(line: &TokenLine<'_>, at: usize) -> Option<(Part, usize)>
     ensures { result ≡ reading.alone line.now tree.Else at }
 {
     let Some(_) = word_at(line, at) else {
@@ -240,7 +237,7 @@ pub fn else_line(line: &Source<'_>, at: usize) -> Option<(Part, usize)>
 
 /// `"USE"`
 #[tactic(auto, unfolding(crate::specs::Reading::alone, bas_form::specs::Reader::built, bas_form::specs::Reader::terminal))]
-pub fn use_line(line: &Source<'_>, at: usize) -> Option<(Part, usize)>
+pub fn use_line(line: &TokenLine<'_>, at: usize) -> Option<(Part, usize)>
     ensures { result ≡ reading.alone line.now tree.Use at }
 {
     let Some(_) = word_at(line, at) else {
@@ -251,7 +248,7 @@ pub fn use_line(line: &Source<'_>, at: usize) -> Option<(Part, usize)>
 
 /// `"END"`, perhaps with the word of what it closes.
 #[tactic(auto, unfolding(crate::specs::Reading::end_line, bas_form::specs::Reader::built, bas_form::specs::Reader::both, bas_form::specs::Reader::optional, bas_form::specs::Reader::terminal))]
-pub fn end_line(line: &Source<'_>, at: usize) -> Option<(Part, usize)>
+pub fn end_line(line: &TokenLine<'_>, at: usize) -> Option<(Part, usize)>
     ensures { result ≡ reading.end_line line.now at }
 {
     let Some(_) = word_at(line, at) else {

@@ -5,10 +5,10 @@ ghost use Rattle.bas_declaration.specs.Parts.{equals};
 ghost use Rattle.bas_declaration.specs.Declarations.{minus, asterisk};
 
 use bas_ast::{FactorSign, Rel, Sign};
-use bas_expr::source::Source;
+use bas_expr::TokenLine;
 
 /// The `=` at a place.
-pub fn equals(line: &Source<'_>, at: usize) -> Option<()>
+pub fn equals(line: &TokenLine<'_>, at: usize) -> Option<()>
     ensures value { result ≡ equals line.now at }
     ensures within { IfSome result (λ _. at < 4096) }
 {
@@ -19,7 +19,7 @@ pub fn equals(line: &Source<'_>, at: usize) -> Option<()>
 }
 
 /// The `-` at a place.
-pub fn minus(line: &Source<'_>, at: usize) -> Option<()>
+pub fn minus(line: &TokenLine<'_>, at: usize) -> Option<()>
     ensures value { result ≡ minus line.now at }
     ensures within { IfSome result (λ _. at < 4096) }
 {
@@ -30,7 +30,7 @@ pub fn minus(line: &Source<'_>, at: usize) -> Option<()>
 }
 
 /// The `*` at a place.
-pub fn asterisk(line: &Source<'_>, at: usize) -> Option<()>
+pub fn asterisk(line: &TokenLine<'_>, at: usize) -> Option<()>
     ensures value { result ≡ asterisk line.now at }
     ensures within { IfSome result (λ _. at < 4096) }
 {

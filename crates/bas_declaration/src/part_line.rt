@@ -12,14 +12,14 @@ use crate::unit_line::{
     case_line, def_line, external_line, function_line, program_line, sub_line, when_line,
 };
 use bas_ast::Part;
-use bas_expr::source::Source;
+use bas_expr::TokenLine;
 use std::alloc::{AllocError, Global};
 
 /// The longest part from a place on, and the place after it.
 #[tactic(auto, unfolding(crate::specs::Reading::part_at, bas_form::specs::Reader::dispatched))]
 pub fn part(
     alloc: Global,
-    line: &Source<'_>,
+    line: &TokenLine<'_>,
     at: usize,
 ) -> Result<Option<(Part, usize)>, AllocError>
     ensures { IfOk result (λ o. o ≡ part_at line.now at) }

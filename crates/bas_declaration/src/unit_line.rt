@@ -5,22 +5,20 @@ ghost use Rattle.bas_ast.specs.declared.part.Part.TheVariants as tree;
 ghost use Rattle.bas_declaration.specs.Parts as grammar;
 ghost use Rattle.bas_declaration.specs.Reading as reading;
 
-use crate::LEVELS;
 use crate::case::cases;
 use crate::formal::heading;
 use crate::keyword::{else_word, exception_word, in_word, procedure_word, use_word, word_at};
 use crate::mark::equals;
 use bas_ast::{Formals, Part, ProcedureKind};
 use bas_base::Name;
-use bas_expr::expression::expr;
-use bas_expr::source::Source;
+use bas_expr::{LEVELS, TokenLine, longest_expr};
 use std::alloc::{AllocError, Global};
 
 type Read<T> = Result<Option<(T, usize)>, AllocError>;
 
 /// `case { "," case } | "ELSE"`
 #[tactic(auto, unfolding(crate::specs::Reading::case_or_else, bas_form::specs::Reader::either, bas_form::specs::Reader::built, bas_form::specs::Reader::terminal))]
-fn case_or_else(alloc: Global, line: &Source<'_>, at: usize) -> Read<Part>
+fn case_or_else(alloc: Global, line: &TokenLine<'_>, at: usize) -> Read<Part>
     ensures { IfOk result (λ o. o ≡ reading.case_or_else line.now at) }
 {
     if let Some((cases, after)) = cases(alloc, line, at)? {
@@ -34,7 +32,7 @@ fn case_or_else(alloc: Global, line: &Source<'_>, at: usize) -> Read<Part>
 
 /// `"CASE" ( case { "," case } | "ELSE" )`
 #[tactic(auto, unfolding(crate::specs::Reading::case_line, bas_form::specs::Reader::built, bas_form::specs::Reader::both, bas_form::specs::Reader::terminal))]
-pub fn case_line(alloc: Global, line: &Source<'_>, at: usize) -> Read<Part>
+pub fn case_line(alloc: Global, line: &TokenLine<'_>, at: usize) -> Read<Part>
     ensures { IfOk result (λ o. o ≡ reading.case_line line.now at) }
 {
     let Some(_) = word_at(line, at) else {
@@ -48,7 +46,7 @@ pub fn case_line(alloc: Global, line: &Source<'_>, at: usize) -> Read<Part>
 
 /// `"USE" name`
 #[tactic(auto, unfolding(crate::specs::Reading::use_name, bas_form::specs::Reader::built, bas_form::specs::Reader::both, bas_form::specs::Reader::terminal))]
-fn use_name(line: &Source<'_>, at: usize) -> Option<(Name, usize)>
+fn use_name(line: &TokenLine<'_>, at: usize) -> Option<(Name, usize)>
     ensures { result ≡ reading.use_name line.now at }
 {
     let Some(()) = use_word(line, at) else {
@@ -63,7 +61,7 @@ fn use_name(line: &Source<'_>, at: usize) -> Option<(Name, usize)>
 
 /// `"IN" | "USE" name`
 #[tactic(auto, unfolding(crate::specs::Reading::in_or_use, bas_form::specs::Reader::either, bas_form::specs::Reader::built, bas_form::specs::Reader::terminal))]
-fn in_or_use(line: &Source<'_>, at: usize) -> Option<(Part, usize)>
+fn in_or_use(line: &TokenLine<'_>, at: usize) -> Option<(Part, usize)>
     ensures { result ≡ reading.in_or_use line.now at }
 {
     if let Some(()) = in_word(line, at) {
@@ -77,7 +75,7 @@ fn in_or_use(line: &Source<'_>, at: usize) -> Option<(Part, usize)>
 
 /// `"WHEN" "EXCEPTION" ( "IN" | "USE" name )`
 #[tactic(auto, unfolding(crate::specs::Reading::when_line, bas_form::specs::Reader::built, bas_form::specs::Reader::both, bas_form::specs::Reader::terminal))]
-pub fn when_line(line: &Source<'_>, at: usize) -> Option<(Part, usize)>
+pub fn when_line(line: &TokenLine<'_>, at: usize) -> Option<(Part, usize)>
     ensures { result ≡ reading.when_line line.now at }
 {
     let Some(_) = word_at(line, at) else {
@@ -104,7 +102,7 @@ fn external(kind: ProcedureKind, name: Name, formals: Formals) -> Part
 
 /// `"EXTERNAL" ( "SUB" | "FUNCTION" ) name [ formals ]`
 #[tactic(auto, unfolding(crate::specs::Reading::external_line, bas_form::specs::Reader::built, bas_form::specs::Reader::both, bas_form::specs::Reader::terminal))]
-pub fn external_line(alloc: Global, line: &Source<'_>, at: usize) -> Read<Part>
+pub fn external_line(alloc: Global, line: &TokenLine<'_>, at: usize) -> Read<Part>
     ensures { IfOk result (λ o. o ≡ reading.external_line line.now at) }
 {
     let Some(_) = word_at(line, at) else {
@@ -122,7 +120,7 @@ pub fn external_line(alloc: Global, line: &Source<'_>, at: usize) -> Read<Part>
 
 /// `"DEF" name [ formals ] "=" expr`
 #[tactic(auto, unfolding(crate::specs::Reading::def_line, bas_form::specs::Reader::built, bas_form::specs::Reader::both, bas_form::specs::Reader::terminal))]
-pub fn def_line(alloc: Global, line: &Source<'_>, at: usize) -> Read<Part>
+pub fn def_line(alloc: Global, line: &TokenLine<'_>, at: usize) -> Read<Part>
     ensures { IfOk result (λ o. o ≡ reading.def_line line.now at) }
 {
     let Some(_) = word_at(line, at) else {
@@ -134,7 +132,7 @@ pub fn def_line(alloc: Global, line: &Source<'_>, at: usize) -> Read<Part>
     let Some(()) = equals(line, at) else {
         return Ok(None);
     };
-    let Some((value, after)) = expr(alloc, line, at + 1, LEVELS)? else {
+    let Some((value, after)) = longest_expr(alloc, line, at + 1, LEVELS)? else {
         return Ok(None);
     };
     Ok(Some((Part::Def(name, formals, value), after)))
@@ -142,7 +140,7 @@ pub fn def_line(alloc: Global, line: &Source<'_>, at: usize) -> Read<Part>
 
 /// `"SUB" name [ formals ]`
 #[tactic(auto, unfolding(crate::specs::Reading::headed, bas_form::specs::Reader::built, bas_form::specs::Reader::both, bas_form::specs::Reader::terminal))]
-pub fn sub_line(alloc: Global, line: &Source<'_>, at: usize) -> Read<Part>
+pub fn sub_line(alloc: Global, line: &TokenLine<'_>, at: usize) -> Read<Part>
     ensures { IfOk result (λ o. o ≡ reading.headed line.now tree.Sub at) }
 {
     let Some(_) = word_at(line, at) else {
@@ -156,7 +154,7 @@ pub fn sub_line(alloc: Global, line: &Source<'_>, at: usize) -> Read<Part>
 
 /// `"FUNCTION" name [ formals ]`
 #[tactic(auto, unfolding(crate::specs::Reading::headed, bas_form::specs::Reader::built, bas_form::specs::Reader::both, bas_form::specs::Reader::terminal))]
-pub fn function_line(alloc: Global, line: &Source<'_>, at: usize) -> Read<Part>
+pub fn function_line(alloc: Global, line: &TokenLine<'_>, at: usize) -> Read<Part>
     ensures { IfOk result (λ o. o ≡ reading.headed line.now tree.Function at) }
 {
     let Some(_) = word_at(line, at) else {
@@ -170,7 +168,7 @@ pub fn function_line(alloc: Global, line: &Source<'_>, at: usize) -> Read<Part>
 
 /// `"PROGRAM" name [ formals ]`
 #[tactic(auto, unfolding(crate::specs::Reading::headed, bas_form::specs::Reader::built, bas_form::specs::Reader::both, bas_form::specs::Reader::terminal))]
-pub fn program_line(alloc: Global, line: &Source<'_>, at: usize) -> Read<Part>
+pub fn program_line(alloc: Global, line: &TokenLine<'_>, at: usize) -> Read<Part>
     ensures { IfOk result (λ o. o ≡ reading.headed line.now tree.Program at) }
 {
     let Some(_) = word_at(line, at) else {

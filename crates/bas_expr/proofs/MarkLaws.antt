@@ -12,7 +12,8 @@ use Rattle.bas_expr.specs.declared.mark.Mark.TheVariants as m
 use Rattle.bas_expr.specs.declared.word.Connective.{Connective}
 use Rattle.bas_expr.specs.Lexemes.{Lexeme}
 use Rattle.bas_expr.specs.Marks.{mark_of, mark, at_mark, opening, closing, comma, colon, hash, caret, sign_of, term_sign_of, factor_sign_of, rel_of}
-use Rattle.bas_expr.specs.Words.{is_supplied, name_of_text, name_of, any_name, unless_supplied, own_name, numeral_of_lexeme, numeral, quoted_of, quoted, connective_of_text, connective_of, connective, negation_by, negation}
+use Rattle.bas_ast.specs.Supplied.{is_supplied}
+use Rattle.bas_expr.specs.Words.{name_of_text, name_of, any_name, unless_supplied, own_name, numeral_of_lexeme, numeral, quoted_of, quoted, connective_of_text, connective_of, connective, negation_by, negation}
 use Rattle.bas_expr.specs.Reading.{Opens, GoesFactor, GoesTerm, GoesExpr}
 
 -- ---- by the mark

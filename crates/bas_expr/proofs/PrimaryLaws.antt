@@ -14,7 +14,8 @@ use Rattle.bas_expr.specs.declared.bracket.Bracket.{Bracket}
 use Rattle.bas_expr.specs.declared.bracket.Bracket.TheVariants as bracket
 use Rattle.bas_expr.specs.Lexemes.{Lexeme}
 use Rattle.bas_expr.specs.Marks.{mark, at_mark, opening, closing, comma, hash, sign_of}
-use Rattle.bas_expr.specs.Words.{is_supplied, any_name, own_name, numeral, quoted, negation}
+use Rattle.bas_ast.specs.Supplied.{is_supplied}
+use Rattle.bas_expr.specs.Words.{any_name, own_name, numeral, quoted, negation}
 use Rattle.bas_expr.specs.Separated.{Behind, Separated}
 use Rattle.bas_expr.specs.Grammar.{Parenthesized, IsActual, IsArgs, IsRange, IsPrimary, named_of, target_of, substring_of}
 use Rattle.bas_expr.specs.Reading.{is_plain, expr_in, are_plain, parenthesized, bracket_at, after_list, element_or_call, after_own, after_supplied, named, group, primary_by, one_primary, plain_name, name_with, substring, Opens, GoesExpr}

@@ -4,7 +4,7 @@ use Rattle.std.proofs.lemmas.List.Elements.{All-nil, All-cons}
 use Rattle.bas_token.specs.declared.token.Token.{Token}
 use Rattle.bas_token.specs.Tokens.{AreTokens, AreInOrder}
 use Rattle.bas_token.proofs.CutLaws.{tokens_in_order, tokens_count}
-use Rattle.bas_expr.specs.Source.{LiesIn}
+use Rattle.bas_expr.specs.TokenLine.{LiesIn}
 
 in_order_lie : (line : List ℕ) (at : ℕ) (tokens : List Token) → AreInOrder (length line) at tokens → (at ≤ length line) × All (LiesIn line) tokens
 in_order_lie line at [] h = (h, All-nil (LiesIn line))

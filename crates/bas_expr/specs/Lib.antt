@@ -6,4 +6,4 @@ pub mod Grammar
 pub mod Conditions
 pub mod Reading
 pub mod Testing
-pub mod Source
+pub mod TokenLine

@@ -18,7 +18,8 @@ use Rattle.bas_expr.specs.declared.bracket.Bracket.{Bracket}
 use Rattle.bas_expr.specs.declared.bracket.Bracket.TheVariants as bracket
 use Rattle.bas_expr.specs.Lexemes.{Lexeme}
 use Rattle.bas_expr.specs.Marks.{at_mark, opening, closing, comma, colon, hash, caret, sign_of, term_sign_of, factor_sign_of}
-use Rattle.bas_expr.specs.Words.{is_supplied, any_name, numeral, quoted}
+use Rattle.bas_ast.specs.Supplied.{is_supplied}
+use Rattle.bas_expr.specs.Words.{any_name, numeral, quoted}
 use Rattle.bas_expr.specs.Separated.{behind, separated}
 use Rattle.bas_expr.specs.Grammar.{args_of, factor_of, term_of, expr_of}
 

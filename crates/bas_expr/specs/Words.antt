@@ -10,6 +10,7 @@ use Rattle.bas_dec.specs.declared.numeral.Numeral as dec
 use Rattle.bas_dec.specs.declared.numeral.Numeral.TheVariants.{Value, TooLarge, NotNumeral}
 use Rattle.bas_dec.specs.Numeral.{numeral_of}
 use Rattle.bas_ast.specs.declared.expression.Numeral.{Numeral}
+use Rattle.bas_ast.specs.Supplied.{is_supplied}
 use Rattle.bas_expr.specs.declared.word.Connective.{Connective}
 use Rattle.bas_expr.specs.declared.word.Connective.TheVariants as w
 use Rattle.bas_expr.specs.Lexemes.{Lexeme}
@@ -22,52 +23,6 @@ is_reserved text =
     str_eq_ignore_ascii_case text (codes "PRINT") || (
     str_eq_ignore_ascii_case text (codes "REM") ||
     str_eq_ignore_ascii_case text (codes "TAB"))))
-
--- the supplied functions of whole numbers and parts of numbers
-abbrev pub is_supplied_number : List ℕ → Bool
-is_supplied_number text =
-    str_eq_ignore_ascii_case text (codes "ABS") || (
-    str_eq_ignore_ascii_case text (codes "SGN") || (
-    str_eq_ignore_ascii_case text (codes "INT") || (
-    str_eq_ignore_ascii_case text (codes "IP") || (
-    str_eq_ignore_ascii_case text (codes "FP") || (
-    str_eq_ignore_ascii_case text (codes "CEIL") || (
-    str_eq_ignore_ascii_case text (codes "MOD") || (
-    str_eq_ignore_ascii_case text (codes "REMAINDER") || (
-    str_eq_ignore_ascii_case text (codes "ROUND") ||
-    str_eq_ignore_ascii_case text (codes "TRUNCATE")))))))))
-
--- the other supplied functions whose value is a number and whose arguments are none, numbers or arrays
-abbrev pub is_supplied_value : List ℕ → Bool
-is_supplied_value text =
-    str_eq_ignore_ascii_case text (codes "SQR") || (
-    str_eq_ignore_ascii_case text (codes "MAX") || (
-    str_eq_ignore_ascii_case text (codes "MIN") || (
-    str_eq_ignore_ascii_case text (codes "MAXNUM") || (
-    str_eq_ignore_ascii_case text (codes "RND") || (
-    str_eq_ignore_ascii_case text (codes "EXTYPE") || (
-    str_eq_ignore_ascii_case text (codes "EXLINE") || (
-    str_eq_ignore_ascii_case text (codes "LBOUND") ||
-    str_eq_ignore_ascii_case text (codes "UBOUND"))))))))
-
--- the supplied functions of strings
-abbrev pub is_supplied_string : List ℕ → Bool
-is_supplied_string text =
-    str_eq_ignore_ascii_case text (codes "LEN") || (
-    str_eq_ignore_ascii_case text (codes "ORD") || (
-    str_eq_ignore_ascii_case text (codes "CHR$") || (
-    str_eq_ignore_ascii_case text (codes "POS") || (
-    str_eq_ignore_ascii_case text (codes "STR$") || (
-    str_eq_ignore_ascii_case text (codes "VAL") || (
-    str_eq_ignore_ascii_case text (codes "UCASE$") || (
-    str_eq_ignore_ascii_case text (codes "LCASE$") || (
-    str_eq_ignore_ascii_case text (codes "LTRIM$") || (
-    str_eq_ignore_ascii_case text (codes "RTRIM$") ||
-    str_eq_ignore_ascii_case text (codes "REPEAT$"))))))))))
-
--- the names of the supplied functions
-abbrev pub is_supplied : List ℕ → Bool
-is_supplied text = is_supplied_number text || (is_supplied_value text || is_supplied_string text)
 
 -- a name in capitals, where the word is one and is not reserved
 abbrev pub name_of_text : List ℕ → Option (List ℕ)

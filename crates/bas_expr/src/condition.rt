@@ -5,8 +5,8 @@ ghost use Rattle.bas_form.specs.Reader.{all_from};
 ghost use Rattle.bas_expr.specs.Reading as reading;
 ghost use Rattle.bas_expr.specs.Testing as testing;
 
-use crate::expression::expr;
-use crate::source::Source;
+use crate::expression::longest_expr;
+use crate::token_line::TokenLine;
 use bas_ast::{Cond, Conj, Test};
 use sqlite_items::{Boxed, Items};
 use std::alloc::{AllocError, Global};
@@ -15,32 +15,32 @@ type Read<T> = Result<Option<(T, usize)>, AllocError>;
 
 /// `expr rel expr`
 #[tactic(auto, unfolding(crate::specs::Testing::comparison, bas_form::specs::Reader::built, bas_form::specs::Reader::both, bas_form::specs::Reader::terminal))]
-fn comparison(alloc: Global, line: &Source<'_>, at: usize, depth: usize) -> Read<Test>
+fn comparison(alloc: Global, line: &TokenLine<'_>, at: usize, depth: usize) -> Read<Test>
     ensures { IfOk result (λ o. o ≡ testing.comparison line.now (reading.expr line.now depth) at) }
 {
-    let Some((left, after)) = expr(alloc, line, at, depth)? else {
+    let Some((left, after)) = longest_expr(alloc, line, at, depth)? else {
         return Ok(None);
     };
     let Some(rel) = line.rel(after) else {
         return Ok(None);
     };
-    let Some((right, after)) = expr(alloc, line, after + 1, depth)? else {
+    let Some((right, after)) = longest_expr(alloc, line, after + 1, depth)? else {
         return Ok(None);
     };
     Ok(Some((Test::Compare(left, rel, right), after)))
 }
 
 /// `"(" cond ")"`
-#[cycle(cond)]
+#[cycle(longest_cond)]
 #[tactic(auto, unfolding(crate::specs::Testing::group, bas_form::specs::Reader::built, bas_form::specs::Reader::both, bas_form::specs::Reader::terminal))]
-fn group(alloc: Global, line: &Source<'_>, at: usize, depth: usize) -> Read<Test>
-    requires { depth < 100 }
+fn group(alloc: Global, line: &TokenLine<'_>, at: usize, depth: usize) -> Read<Test>
+    requires { depth < usize.MAX }
     ensures { IfOk result (λ o. o ≡ testing.group line.now (testing.cond line.now depth) at) }
 {
     let Some(()) = line.opening(at) else {
         return Ok(None);
     };
-    let Some((inner, close)) = cond(alloc, line, at + 1, depth)? else {
+    let Some((inner, close)) = longest_cond(alloc, line, at + 1, depth)? else {
         return Ok(None);
     };
     let Some(()) = line.closing(close) else {
@@ -50,10 +50,10 @@ fn group(alloc: Global, line: &Source<'_>, at: usize, depth: usize) -> Read<Test
 }
 
 /// `"NOT" test | "(" cond ")" | expr rel expr`
-#[cycle(cond)]
-fn test(alloc: Global, line: &Source<'_>, at: usize, depth: usize, nots: usize) -> Read<Test>
+#[cycle(longest_cond)]
+fn test(alloc: Global, line: &TokenLine<'_>, at: usize, depth: usize, nots: usize) -> Read<Test>
     requires few { nots ≤ 4096 }
-    requires small { depth < 100 }
+    requires small { depth < usize.MAX }
     ensures { IfOk result (λ o. o ≡ testing.test line.now (reading.expr line.now (depth + 1)) (testing.cond line.now depth) nots at) }
 {
     if nots == 0 {
@@ -72,10 +72,10 @@ fn test(alloc: Global, line: &Source<'_>, at: usize, depth: usize, nots: usize) 
 }
 
 /// `"AND" test`
-#[cycle(cond)]
+#[cycle(longest_cond)]
 #[tactic(auto, unfolding(bas_form::specs::Reader::built, bas_form::specs::Reader::both, bas_form::specs::Reader::terminal))]
-fn next_test(alloc: Global, line: &Source<'_>, at: usize, depth: usize) -> Read<Test>
-    requires { depth < 100 }
+fn next_test(alloc: Global, line: &TokenLine<'_>, at: usize, depth: usize) -> Read<Test>
+    requires { depth < usize.MAX }
     ensures { IfOk result (λ o. o ≡ testing.next_test line.now (reading.expr line.now (depth + 1)) (testing.cond line.now depth) (length line.now) at) }
 {
     let Some(()) = line.and_word(at) else {
@@ -88,14 +88,14 @@ fn next_test(alloc: Global, line: &Source<'_>, at: usize, depth: usize) -> Read<
 }
 
 /// `{ "AND" test }`
-#[cycle(cond)]
+#[cycle(longest_cond)]
 fn tests(
     alloc: Global,
-    line: &Source<'_>,
+    line: &TokenLine<'_>,
     mut at: usize,
     depth: usize,
 ) -> Result<(Items<Test>, usize), AllocError>
-    requires { depth < 100 }
+    requires { depth < usize.MAX }
     ensures { IfOk result (λ r. r ≡ all_from (testing.next_test line.now (reading.expr line.now (depth + 1)) (testing.cond line.now depth) (length line.now)) (length line.now) at) }
 {
     let mut more = Items::new(alloc);
@@ -107,10 +107,10 @@ fn tests(
 }
 
 /// `test { "AND" test }`
-#[cycle(cond)]
+#[cycle(longest_cond)]
 #[tactic(auto, unfolding(crate::specs::Testing::conj, bas_form::specs::Reader::built, bas_form::specs::Reader::both, bas_form::specs::Reader::repeated))]
-fn conj(alloc: Global, line: &Source<'_>, at: usize, depth: usize) -> Read<Conj>
-    requires { depth < 100 }
+fn conj(alloc: Global, line: &TokenLine<'_>, at: usize, depth: usize) -> Read<Conj>
+    requires { depth < usize.MAX }
     ensures { IfOk result (λ o. o ≡ testing.conj line.now (reading.expr line.now (depth + 1)) (testing.cond line.now depth) (length line.now) at) }
 {
     let Some((first, after)) = test(alloc, line, at, depth, line.len())? else {
@@ -121,10 +121,10 @@ fn conj(alloc: Global, line: &Source<'_>, at: usize, depth: usize) -> Read<Conj>
 }
 
 /// `"OR" conj`
-#[cycle(cond)]
+#[cycle(longest_cond)]
 #[tactic(auto, unfolding(bas_form::specs::Reader::built, bas_form::specs::Reader::both, bas_form::specs::Reader::terminal))]
-fn next_conj(alloc: Global, line: &Source<'_>, at: usize, depth: usize) -> Read<Conj>
-    requires { depth < 100 }
+fn next_conj(alloc: Global, line: &TokenLine<'_>, at: usize, depth: usize) -> Read<Conj>
+    requires { depth < usize.MAX }
     ensures { IfOk result (λ o. o ≡ testing.next_conj line.now (reading.expr line.now (depth + 1)) (testing.cond line.now depth) (length line.now) at) }
 {
     let Some(()) = line.or_word(at) else {
@@ -137,14 +137,14 @@ fn next_conj(alloc: Global, line: &Source<'_>, at: usize, depth: usize) -> Read<
 }
 
 /// `{ "OR" conj }`
-#[cycle(cond)]
+#[cycle(longest_cond)]
 fn conjs(
     alloc: Global,
-    line: &Source<'_>,
+    line: &TokenLine<'_>,
     mut at: usize,
     depth: usize,
 ) -> Result<(Items<Conj>, usize), AllocError>
-    requires { depth < 100 }
+    requires { depth < usize.MAX }
     ensures { IfOk result (λ r. r ≡ all_from (testing.next_conj line.now (reading.expr line.now (depth + 1)) (testing.cond line.now depth) (length line.now)) (length line.now) at) }
 {
     let mut more = Items::new(alloc);
@@ -156,10 +156,10 @@ fn conjs(
 }
 
 /// `conj { "OR" conj }`
-#[cycle(cond)]
+#[cycle(longest_cond)]
 #[tactic(auto, unfolding(crate::specs::Testing::alternative, bas_form::specs::Reader::built, bas_form::specs::Reader::both, bas_form::specs::Reader::repeated))]
-fn alternative(alloc: Global, line: &Source<'_>, at: usize, depth: usize) -> Read<Cond>
-    requires { depth < 100 }
+fn alternative(alloc: Global, line: &TokenLine<'_>, at: usize, depth: usize) -> Read<Cond>
+    requires { depth < usize.MAX }
     ensures { IfOk result (λ o. o ≡ testing.alternative line.now (reading.expr line.now (depth + 1)) (testing.cond line.now depth) (length line.now) at) }
 {
     let Some((first, after)) = conj(alloc, line, at, depth)? else {
@@ -170,9 +170,8 @@ fn alternative(alloc: Global, line: &Source<'_>, at: usize, depth: usize) -> Rea
 }
 
 /// The longest condition from a place on, with parentheses nested less deep than `depth`.
-#[cycle(cond)]
-pub fn cond(alloc: Global, line: &Source<'_>, at: usize, depth: usize) -> Read<Cond>
-    requires { depth ≤ 100 }
+#[cycle(longest_cond)]
+pub fn longest_cond(alloc: Global, line: &TokenLine<'_>, at: usize, depth: usize) -> Read<Cond>
     ensures { IfOk result (λ o. o ≡ testing.cond line.now depth at) }
 {
     if depth == 0 {

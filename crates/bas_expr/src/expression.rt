@@ -5,9 +5,10 @@ ghost use Rattle.bas_form.specs.Reader.{all_from, built};
 ghost use Rattle.bas_expr.specs.Reading as reading;
 
 use crate::bracket::{Bracket, are_plain, subscripts};
-use crate::source::Source;
-use crate::word::is_supplied;
-use bas_ast::{Actual, Args, Expr, Factor, FactorSign, Primary, Target, Term, TermSign};
+use crate::token_line::TokenLine;
+use bas_ast::{
+    Actual, Args, Expr, Factor, FactorSign, Primary, Target, Term, TermSign, is_supplied,
+};
 use bas_base::{Name, Seq};
 use sqlite_items::{Boxed, Items};
 use std::alloc::{AllocError, Global};
@@ -42,15 +43,15 @@ fn substring(
 }
 
 /// `"(" expr ")"`
-#[cycle(expr)]
+#[cycle(longest_expr)]
 #[tactic(auto, unfolding(crate::specs::Reading::group, bas_form::specs::Reader::built, bas_form::specs::Reader::both, bas_form::specs::Reader::terminal))]
-fn group(alloc: Global, line: &Source<'_>, at: usize, depth: usize) -> Read<Primary>
+fn group(alloc: Global, line: &TokenLine<'_>, at: usize, depth: usize) -> Read<Primary>
     ensures { IfOk result (λ o. o ≡ reading.group line.now (reading.expr line.now depth) at) }
 {
     let Some(()) = line.opening(at) else {
         return Ok(None);
     };
-    let Some((inner, close)) = expr(alloc, line, at + 1, depth)? else {
+    let Some((inner, close)) = longest_expr(alloc, line, at + 1, depth)? else {
         return Ok(None);
     };
     let Some(()) = line.closing(close) else {
@@ -60,17 +61,17 @@ fn group(alloc: Global, line: &Source<'_>, at: usize, depth: usize) -> Read<Prim
 }
 
 /// `expr | "#" expr`
-#[cycle(expr)]
+#[cycle(longest_expr)]
 #[tactic(auto, unfolding(crate::specs::Reading::one_actual))]
-fn actual(alloc: Global, line: &Source<'_>, at: usize, depth: usize) -> Read<Actual>
+fn actual(alloc: Global, line: &TokenLine<'_>, at: usize, depth: usize) -> Read<Actual>
     ensures { IfOk result (λ o. o ≡ reading.one_actual line.now (reading.expr line.now depth) at) }
 {
     match line.hash(at) {
-        Some(()) => match expr(alloc, line, at + 1, depth)? {
+        Some(()) => match longest_expr(alloc, line, at + 1, depth)? {
             Some((number, after)) => Ok(Some((Actual::Chan(number), after))),
             None => Ok(None),
         },
-        None => match expr(alloc, line, at, depth)? {
+        None => match longest_expr(alloc, line, at, depth)? {
             Some((value, after)) => Ok(Some((Actual::Expr(value), after))),
             None => Ok(None),
         },
@@ -78,9 +79,9 @@ fn actual(alloc: Global, line: &Source<'_>, at: usize, depth: usize) -> Read<Act
 }
 
 /// `"," actual`
-#[cycle(expr)]
+#[cycle(longest_expr)]
 #[tactic(auto, unfolding(bas_form::specs::Reader::built, bas_form::specs::Reader::both, bas_form::specs::Reader::terminal))]
-fn next_actual(alloc: Global, line: &Source<'_>, at: usize, depth: usize) -> Read<Actual>
+fn next_actual(alloc: Global, line: &TokenLine<'_>, at: usize, depth: usize) -> Read<Actual>
     ensures { IfOk result (λ o. o ≡ reading.next_actual line.now (reading.expr line.now depth) at) }
 {
     let Some(()) = line.comma(at) else {
@@ -93,10 +94,10 @@ fn next_actual(alloc: Global, line: &Source<'_>, at: usize, depth: usize) -> Rea
 }
 
 /// `{ "," actual }`
-#[cycle(expr)]
+#[cycle(longest_expr)]
 fn more_actuals(
     alloc: Global,
-    line: &Source<'_>,
+    line: &TokenLine<'_>,
     mut at: usize,
     depth: usize,
     first: Actual,
@@ -113,11 +114,11 @@ fn more_actuals(
 }
 
 /// `{ "," actual } ")"`
-#[cycle(expr)]
+#[cycle(longest_expr)]
 #[tactic(auto, unfolding(crate::specs::Reading::list_from))]
 fn list_from(
     alloc: Global,
-    line: &Source<'_>,
+    line: &TokenLine<'_>,
     at: usize,
     depth: usize,
     first: Actual,
@@ -132,18 +133,18 @@ fn list_from(
 }
 
 /// `expr ")"`
-#[cycle(expr)]
+#[cycle(longest_expr)]
 #[tactic(auto, unfolding(crate::specs::Reading::range_from))]
 fn range_from(
     alloc: Global,
-    line: &Source<'_>,
+    line: &TokenLine<'_>,
     at: usize,
     depth: usize,
     first: Expr,
 ) -> Read<Bracket>
     ensures { IfOk result (λ o. o ≡ reading.range_from line.now (reading.expr line.now depth) first at) }
 {
-    let Some((last, close)) = expr(alloc, line, at, depth)? else {
+    let Some((last, close)) = longest_expr(alloc, line, at, depth)? else {
         return Ok(None);
     };
     let Some(()) = line.closing(close) else {
@@ -153,16 +154,16 @@ fn range_from(
 }
 
 /// What stands in parentheses behind a name, from behind the `(` on.
-#[cycle(expr)]
-fn after_opening(alloc: Global, line: &Source<'_>, at: usize, depth: usize) -> Read<Bracket>
+#[cycle(longest_expr)]
+fn after_opening(alloc: Global, line: &TokenLine<'_>, at: usize, depth: usize) -> Read<Bracket>
     ensures { IfOk result (λ o. o ≡ reading.after_opening line.now (reading.expr line.now depth) at (reading.hash_at line.now at)) }
 {
     match line.hash(at) {
-        Some(()) => match expr(alloc, line, at + 1, depth)? {
+        Some(()) => match longest_expr(alloc, line, at + 1, depth)? {
             Some((number, after)) => list_from(alloc, line, after, depth, Actual::Chan(number)),
             None => Ok(None),
         },
-        None => match expr(alloc, line, at, depth)? {
+        None => match longest_expr(alloc, line, at, depth)? {
             Some((first, after)) => match line.colon(after) {
                 Some(()) => range_from(alloc, line, after + 1, depth, first),
                 None => list_from(alloc, line, after, depth, Actual::Expr(first)),
@@ -173,9 +174,9 @@ fn after_opening(alloc: Global, line: &Source<'_>, at: usize, depth: usize) -> R
 }
 
 /// What stands in parentheses behind a name.
-#[cycle(expr)]
+#[cycle(longest_expr)]
 #[tactic(auto, unfolding(crate::specs::Reading::bracket_at))]
-fn bracket(alloc: Global, line: &Source<'_>, at: usize, depth: usize) -> Read<Bracket>
+fn bracket(alloc: Global, line: &TokenLine<'_>, at: usize, depth: usize) -> Read<Bracket>
     ensures { IfOk result (λ o. o ≡ reading.bracket_at line.now (reading.expr line.now depth) at) }
 {
     match line.opening(at) {
@@ -185,10 +186,10 @@ fn bracket(alloc: Global, line: &Source<'_>, at: usize, depth: usize) -> Read<Br
 }
 
 /// Behind a name with arguments: they are subscripts where a substring stands there.
-#[cycle(expr)]
+#[cycle(longest_expr)]
 fn after_list(
     alloc: Global,
-    line: &Source<'_>,
+    line: &TokenLine<'_>,
     at: usize,
     depth: usize,
     name: Name,
@@ -212,11 +213,11 @@ fn after_list(
 }
 
 /// Behind a name.
-#[cycle(expr)]
+#[cycle(longest_expr)]
 #[tactic(auto, unfolding(crate::specs::Reading::named))]
 fn named(
     alloc: Global,
-    line: &Source<'_>,
+    line: &TokenLine<'_>,
     at: usize,
     depth: usize,
     name: Name,
@@ -239,9 +240,9 @@ fn named(
 }
 
 /// `numeral | quoted | "(" expr ")" | name [ "(" args ")" ] | target "(" expr ":" expr ")"`
-#[cycle(expr)]
+#[cycle(longest_expr)]
 #[tactic(auto, unfolding(crate::specs::Reading::one_primary))]
-fn primary(alloc: Global, line: &Source<'_>, at: usize, depth: usize) -> Read<Primary>
+fn primary(alloc: Global, line: &TokenLine<'_>, at: usize, depth: usize) -> Read<Primary>
     ensures { IfOk result (λ o. o ≡ reading.one_primary line.now (reading.expr line.now depth) at) }
 {
     if let Some(value) = line.numeral(at) {
@@ -257,9 +258,9 @@ fn primary(alloc: Global, line: &Source<'_>, at: usize, depth: usize) -> Read<Pr
 }
 
 /// `"^" primary`
-#[cycle(expr)]
+#[cycle(longest_expr)]
 #[tactic(auto, unfolding(bas_form::specs::Reader::built, bas_form::specs::Reader::both, bas_form::specs::Reader::terminal))]
-fn next_primary(alloc: Global, line: &Source<'_>, at: usize, depth: usize) -> Read<Primary>
+fn next_primary(alloc: Global, line: &TokenLine<'_>, at: usize, depth: usize) -> Read<Primary>
     ensures { IfOk result (λ o. o ≡ reading.next_primary line.now (reading.expr line.now depth) at) }
 {
     let Some(()) = line.caret(at) else {
@@ -272,10 +273,10 @@ fn next_primary(alloc: Global, line: &Source<'_>, at: usize, depth: usize) -> Re
 }
 
 /// `{ "^" primary }`
-#[cycle(expr)]
+#[cycle(longest_expr)]
 fn exponents(
     alloc: Global,
-    line: &Source<'_>,
+    line: &TokenLine<'_>,
     mut at: usize,
     depth: usize,
 ) -> Result<(Items<Primary>, usize), AllocError>
@@ -290,9 +291,9 @@ fn exponents(
 }
 
 /// `primary { "^" primary }`
-#[cycle(expr)]
+#[cycle(longest_expr)]
 #[tactic(auto, unfolding(crate::specs::Reading::one_factor, bas_form::specs::Reader::built, bas_form::specs::Reader::both, bas_form::specs::Reader::repeated))]
-fn factor(alloc: Global, line: &Source<'_>, at: usize, depth: usize) -> Read<Factor>
+fn factor(alloc: Global, line: &TokenLine<'_>, at: usize, depth: usize) -> Read<Factor>
     ensures { IfOk result (λ o. o ≡ reading.one_factor line.now (reading.expr line.now depth) at) }
 {
     let Some((base, after)) = primary(alloc, line, at, depth)? else {
@@ -303,11 +304,11 @@ fn factor(alloc: Global, line: &Source<'_>, at: usize, depth: usize) -> Read<Fac
 }
 
 /// `( "*" | "/" ) factor`
-#[cycle(expr)]
+#[cycle(longest_expr)]
 #[tactic(auto, unfolding(bas_form::specs::Reader::both, bas_form::specs::Reader::terminal))]
 fn next_factor(
     alloc: Global,
-    line: &Source<'_>,
+    line: &TokenLine<'_>,
     at: usize,
     depth: usize,
 ) -> Read<(FactorSign, Factor)>
@@ -323,10 +324,10 @@ fn next_factor(
 }
 
 /// `{ ( "*" | "/" ) factor }`
-#[cycle(expr)]
+#[cycle(longest_expr)]
 fn factors(
     alloc: Global,
-    line: &Source<'_>,
+    line: &TokenLine<'_>,
     mut at: usize,
     depth: usize,
 ) -> Result<(Items<(FactorSign, Factor)>, usize), AllocError>
@@ -341,9 +342,9 @@ fn factors(
 }
 
 /// `factor { ( "*" | "/" ) factor }`
-#[cycle(expr)]
+#[cycle(longest_expr)]
 #[tactic(auto, unfolding(crate::specs::Reading::one_term, bas_form::specs::Reader::built, bas_form::specs::Reader::both, bas_form::specs::Reader::repeated))]
-fn term(alloc: Global, line: &Source<'_>, at: usize, depth: usize) -> Read<Term>
+fn term(alloc: Global, line: &TokenLine<'_>, at: usize, depth: usize) -> Read<Term>
     ensures { IfOk result (λ o. o ≡ reading.one_term line.now (reading.expr line.now depth) at) }
 {
     let Some((first, after)) = factor(alloc, line, at, depth)? else {
@@ -354,9 +355,9 @@ fn term(alloc: Global, line: &Source<'_>, at: usize, depth: usize) -> Read<Term>
 }
 
 /// `( "+" | "-" | "&" ) term`
-#[cycle(expr)]
+#[cycle(longest_expr)]
 #[tactic(auto, unfolding(bas_form::specs::Reader::both, bas_form::specs::Reader::terminal))]
-fn next_term(alloc: Global, line: &Source<'_>, at: usize, depth: usize) -> Read<(TermSign, Term)>
+fn next_term(alloc: Global, line: &TokenLine<'_>, at: usize, depth: usize) -> Read<(TermSign, Term)>
     ensures { IfOk result (λ o. o ≡ reading.next_term line.now (reading.expr line.now depth) at) }
 {
     let Some(sign) = line.term_sign(at) else {
@@ -369,10 +370,10 @@ fn next_term(alloc: Global, line: &Source<'_>, at: usize, depth: usize) -> Read<
 }
 
 /// `{ ( "+" | "-" | "&" ) term }`
-#[cycle(expr)]
+#[cycle(longest_expr)]
 fn terms(
     alloc: Global,
-    line: &Source<'_>,
+    line: &TokenLine<'_>,
     mut at: usize,
     depth: usize,
 ) -> Result<(Items<(TermSign, Term)>, usize), AllocError>
@@ -387,9 +388,9 @@ fn terms(
 }
 
 /// `[ "+" | "-" ] term { ( "+" | "-" | "&" ) term }`
-#[cycle(expr)]
+#[cycle(longest_expr)]
 #[tactic(auto, unfolding(crate::specs::Reading::sum, bas_form::specs::Reader::built, bas_form::specs::Reader::both, bas_form::specs::Reader::optional, bas_form::specs::Reader::terminal, bas_form::specs::Reader::repeated))]
-fn sum(alloc: Global, line: &Source<'_>, at: usize, depth: usize) -> Read<Expr>
+fn sum(alloc: Global, line: &TokenLine<'_>, at: usize, depth: usize) -> Read<Expr>
     ensures { IfOk result (λ o. o ≡ reading.sum line.now (reading.expr line.now depth) at) }
 {
     let sign = line.sign(at);
@@ -406,9 +407,9 @@ fn sum(alloc: Global, line: &Source<'_>, at: usize, depth: usize) -> Read<Expr>
 }
 
 /// The longest expression from a place on, with parentheses nested less deep than `depth`.
-#[cycle(expr)]
+#[cycle(longest_expr)]
 #[tactic(auto, unfolding(crate::specs::Reading::expr))]
-pub fn expr(alloc: Global, line: &Source<'_>, at: usize, depth: usize) -> Read<Expr>
+pub fn longest_expr(alloc: Global, line: &TokenLine<'_>, at: usize, depth: usize) -> Read<Expr>
     ensures { IfOk result (λ o. o ≡ reading.expr line.now depth at) }
 {
     if depth == 0 {

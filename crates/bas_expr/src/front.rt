@@ -1,21 +1,20 @@
 //! The expression and the condition that a token begins.
 
 ghost use Rattle.std.specs.Prelude.{◌≡◌, ℕ, ◌≤◌, length, All, IfOk, IsErrOf};
-ghost use Rattle.bas_expr.specs.Source.{LiesIn};
+ghost use Rattle.bas_expr.specs.TokenLine.{LiesIn};
 ghost use Rattle.bas_expr.specs.Lexemes.{lexemes};
 ghost use Rattle.bas_expr.specs.Grammar.{IsExpr, levels};
 ghost use Rattle.bas_expr.specs.Conditions.{IsCond};
 ghost use Rattle.bas_ast.specs.declared.expression.Expr.{Expr};
 ghost use Rattle.bas_ast.specs.declared.condition.Cond.{Cond};
 
-use crate::source::Source;
-use crate::{condition, expression};
+use crate::LEVELS;
+use crate::condition::longest_cond;
+use crate::expression::longest_expr;
+use crate::token_line::TokenLine;
 use bas_ast::{Cond, Expr};
 use bas_token::Token;
 use std::alloc::{AllocError, Global};
-
-// Parentheses are nested less deep than this.
-const LEVELS: usize = 65;
 
 /// Why there is no expression or condition.
 #[derive(Clone, Copy, Debug, PartialEq, Eq)]
@@ -60,8 +59,8 @@ pub fn expr(
     ensures none { IsErrOf result (ExprFault.NotExpr at) → (e : Expr) (next : ℕ) → IsExpr (lexemes line.now tokens.now) levels at e next → ⊥ }
     ensures place { (n : ℕ) → IsErrOf result (ExprFault.NotExpr n) → n ≡ at }
 {
-    let source = Source::new(line, tokens);
-    match expression::expr(alloc, &source, at, LEVELS)? {
+    let token_line = TokenLine::new(line, tokens);
+    match longest_expr(alloc, &token_line, at, LEVELS)? {
         Some(found) => Ok(found),
         None => Err(ExprFault::NotExpr { at }),
     }
@@ -87,8 +86,8 @@ pub fn cond(
     ensures none { IsErrOf result (ExprFault.NotExpr at) → (c : Cond) (next : ℕ) → IsCond (lexemes line.now tokens.now) levels at c next → ⊥ }
     ensures place { (n : ℕ) → IsErrOf result (ExprFault.NotExpr n) → n ≡ at }
 {
-    let source = Source::new(line, tokens);
-    match condition::cond(alloc, &source, at, LEVELS)? {
+    let token_line = TokenLine::new(line, tokens);
+    match longest_cond(alloc, &token_line, at, LEVELS)? {
         Some(found) => Ok(found),
         None => Err(ExprFault::NotExpr { at }),
     }

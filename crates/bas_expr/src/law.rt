@@ -3,7 +3,7 @@
 ghost use Rattle.std.specs.Prelude.{ℕ, List, length, All};
 ghost use Rattle.bas_token.specs.Tokens.{AreTokens};
 ghost use Rattle.bas_token.specs.declared.token.Token.{Token};
-ghost use Rattle.bas_expr.specs.Source.{LiesIn};
+ghost use Rattle.bas_expr.specs.TokenLine.{LiesIn};
 ghost use Rattle.bas_form.specs.Reader.{ReadsLongest};
 ghost use Rattle.bas_expr.specs.Lexemes.{Lexeme};
 ghost use Rattle.bas_expr.specs.Grammar.{IsExpr};

@@ -45,58 +45,6 @@ fn is_reserved(text: &[u8]) -> bool
         || text.eq_ignore_ascii_case(b"TAB")
 }
 
-fn is_supplied_number(text: &[u8]) -> bool
-    ensures { result ≡ words.is_supplied_number text.now }
-{
-    text.eq_ignore_ascii_case(b"ABS")
-        || text.eq_ignore_ascii_case(b"SGN")
-        || text.eq_ignore_ascii_case(b"INT")
-        || text.eq_ignore_ascii_case(b"IP")
-        || text.eq_ignore_ascii_case(b"FP")
-        || text.eq_ignore_ascii_case(b"CEIL")
-        || text.eq_ignore_ascii_case(b"MOD")
-        || text.eq_ignore_ascii_case(b"REMAINDER")
-        || text.eq_ignore_ascii_case(b"ROUND")
-        || text.eq_ignore_ascii_case(b"TRUNCATE")
-}
-
-fn is_supplied_value(text: &[u8]) -> bool
-    ensures { result ≡ words.is_supplied_value text.now }
-{
-    text.eq_ignore_ascii_case(b"SQR")
-        || text.eq_ignore_ascii_case(b"MAX")
-        || text.eq_ignore_ascii_case(b"MIN")
-        || text.eq_ignore_ascii_case(b"MAXNUM")
-        || text.eq_ignore_ascii_case(b"RND")
-        || text.eq_ignore_ascii_case(b"EXTYPE")
-        || text.eq_ignore_ascii_case(b"EXLINE")
-        || text.eq_ignore_ascii_case(b"LBOUND")
-        || text.eq_ignore_ascii_case(b"UBOUND")
-}
-
-fn is_supplied_string(text: &[u8]) -> bool
-    ensures { result ≡ words.is_supplied_string text.now }
-{
-    text.eq_ignore_ascii_case(b"LEN")
-        || text.eq_ignore_ascii_case(b"ORD")
-        || text.eq_ignore_ascii_case(b"CHR$")
-        || text.eq_ignore_ascii_case(b"POS")
-        || text.eq_ignore_ascii_case(b"STR$")
-        || text.eq_ignore_ascii_case(b"VAL")
-        || text.eq_ignore_ascii_case(b"UCASE$")
-        || text.eq_ignore_ascii_case(b"LCASE$")
-        || text.eq_ignore_ascii_case(b"LTRIM$")
-        || text.eq_ignore_ascii_case(b"RTRIM$")
-        || text.eq_ignore_ascii_case(b"REPEAT$")
-}
-
-/// Whether the text is the name of a supplied function.
-pub fn is_supplied(text: &[u8]) -> bool
-    ensures { result ≡ words.is_supplied text.now }
-{
-    is_supplied_number(text) || is_supplied_value(text) || is_supplied_string(text)
-}
-
 /// The name that a word spells, where it is not reserved.
 pub fn name_of_text(text: &[u8]) -> Option<Name>
     ensures { result ≡ words.name_of_text text.now }

@@ -16,7 +16,7 @@ use Rattle.bas_expr.specs.Marks.{mark}
 use Rattle.bas_expr.specs.Words.{connective}
 use Rattle.bas_expr.specs.Testing.{GoesCond}
 use Rattle.bas_expr.proofs.ConditionLaws.{cond_longest}
-use Rattle.bas_declaration.specs.declared.TheConstants.{LEVELS}
+use Rattle.bas_expr.specs.declared.TheConstants.{LEVELS}
 use Rattle.bas_declaration.specs.declared.keyword.Keyword.{Keyword}
 use Rattle.bas_declaration.specs.declared.keyword.Keyword.TheVariants as k
 use Rattle.bas_declaration.specs.Keywords.{keyword, at_word, then_word}

@@ -21,11 +21,11 @@ use Rattle.bas_expr.specs.Separated.{Behind}
 use Rattle.bas_expr.specs.Grammar.{Parenthesized}
 use Rattle.bas_expr.proofs.MarkLaws.{name_first, own_is}
 use Rattle.bas_expr.proofs.ExpressionLaws.{no_hash}
-use Rattle.bas_declaration.specs.declared.TheConstants.{LEVELS}
-use Rattle.bas_declaration.specs.Keywords.{spells}
+use Rattle.bas_expr.specs.declared.TheConstants.{LEVELS}
+use Rattle.bas_declaration.specs.Keywords.{spelling, spells}
 use Rattle.bas_declaration.specs.Parts.{E}
 use Rattle.bas_declaration.proofs.WordLaws.{same_word_is, spells_stands, mark_no_spells}
-use Rattle.bas_list.specs.Words.{separator_of, tab_of, tab_word, Ends}
+use Rattle.bas_list.specs.Words.{separator_of, Ends}
 use Rattle.bas_list.specs.declared.TheConstants.{INNER_LEVELS}
 use Rattle.bas_list.specs.Lists.{Inner, IsTargets, IsPitem, IsNext, IsPlist, plist_of}
 use Rattle.bas_list.proofs.EndLaws.{other_word, mark_ends}
@@ -62,7 +62,7 @@ separator_plain m.Comma a e level = refl
 separator_plain m.Semicolon a e level = refl
 separator_plain _ a e level = absurd (cc)
 
-tab_passes : (token : Lexeme) (u : Unit {0}) → tab_of token ≡ Some u → Passes token
+tab_passes : (token : Lexeme) (u : Unit {0}) → spelling (codes "TAB") token ≡ Some u → Passes token
 tab_passes (kind.Word, text) u e = (other_word (codes "TAB") (codes "ELSE") text (same_word_is (codes "TAB") text u e) refl, refl)
 tab_passes (kind.Numeral, text) u e = absurd (cc)
 tab_passes (kind.Quoted, text) u e = absurd (cc)
@@ -76,13 +76,13 @@ module _ (tokens : List Lexeme) where
   none_marks : {A : Type 0} (f : Mark → Option A) (n : ℕ) → mark tokens n ≡ None → IsSome (at_mark f tokens n) → ⊥
   none_marks f n e h = let g = rw e at h in absurd (cc)
 
-  tab_no_mark : (n : ℕ) (u : Unit {0}) → tab_word tokens n ≡ Some u → mark tokens n ≡ None
-  unfolding tab_word mark
-  tab_no_mark n u e = let x = element_from tab_of tokens n u e in element_is mark_of tokens n x.0 x.1 ∙ (tab_passes x.0 u x.2).1
+  tab_no_mark : (n : ℕ) (u : Unit {0}) → spells (codes "TAB") tokens n ≡ Some u → mark tokens n ≡ None
+  unfolding spells mark
+  tab_no_mark n u e = let x = element_from (spelling (codes "TAB")) tokens n u e in element_is mark_of tokens n x.0 x.1 ∙ (tab_passes x.0 u x.2).1
 
-  tab_balances : Balances 0 tokens (Terminal (tab_word tokens))
-  unfolding tab_word
-  tab_balances = element_balances 0 tokens tab_of tab_passes
+  tab_balances : Balances 0 tokens (Terminal (spells (codes "TAB") tokens))
+  unfolding spells
+  tab_balances = element_balances 0 tokens (spelling (codes "TAB")) tab_passes
 
   separator_balances : (least : ℕ) → Balances least tokens (Terminal (at_mark separator_of tokens))
   separator_balances least = mark_balances tokens least separator_of separator_plain
@@ -94,10 +94,10 @@ module _ (tokens : List Lexeme) where
   inner_balances = deeper_balances 1 tokens (Inner tokens) (expr_balances tokens INNER_LEVELS)
 
   item_balances : Balances 0 tokens (IsPitem tokens)
-  item_balances = or_balances 0 tokens (Built pitem.Expr (E tokens)) (Built pitem.Tab (Behind (tab_word tokens) (Parenthesized tokens (Inner tokens))))
+  item_balances = or_balances 0 tokens (Built pitem.Expr (E tokens)) (Built pitem.Tab (Behind (spells (codes "TAB") tokens) (Parenthesized tokens (Inner tokens))))
       (built_balances 0 tokens pitem.Expr (E tokens) (e_balances 0))
-      (built_balances 0 tokens pitem.Tab (Behind (tab_word tokens) (Parenthesized tokens (Inner tokens)))
-      (behind_balances 0 tokens (tab_word tokens) tab_balances (Parenthesized tokens (Inner tokens)) (parenthesized_balances tokens (Inner tokens) inner_balances)))
+      (built_balances 0 tokens pitem.Tab (Behind (spells (codes "TAB") tokens) (Parenthesized tokens (Inner tokens)))
+      (behind_balances 0 tokens (spells (codes "TAB") tokens) tab_balances (Parenthesized tokens (Inner tokens)) (parenthesized_balances tokens (Inner tokens) inner_balances)))
 
   next_balances : Balances 0 tokens (IsNext tokens)
   next_balances = then_balances 0 tokens (Terminal (at_mark separator_of tokens)) (Optional (IsPitem tokens)) (separator_balances 0) (optional_balances 0 tokens (IsPitem tokens) item_balances)
@@ -138,7 +138,7 @@ module _ (tokens : List Lexeme) where
 
   hash_no_item : (n : ℕ) → IsSome (at_mark hash tokens n) → (i : Pitem) (k : ℕ) → IsPitem tokens n i k → ⊥
   hash_no_item n h i k (inl x) = none_some (at_mark hash tokens n) (no_hash tokens LEVELS n x.0 k x.2) h
-  hash_no_item n h i k (inr x) = let y = led (tab_word tokens) (Parenthesized tokens (Inner tokens)) n x.0 k x.2 in none_marks hash n (tab_no_mark n y.0 y.1) h
+  hash_no_item n h i k (inr x) = let y = led (spells (codes "TAB") tokens) (Parenthesized tokens (Inner tokens)) n x.0 k x.2 in none_marks hash n (tab_no_mark n y.0 y.1) h
 
   hash_first : (n : ℕ) → IsSome (at_mark hash tokens n) → (o : Option Pitem) (k : ℕ) → Optional (IsPitem tokens) n o k → k ≡ n
   hash_first n h None k x = x

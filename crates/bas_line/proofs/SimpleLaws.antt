@@ -17,7 +17,7 @@ use Rattle.bas_expr.specs.Testing.{GoesCond}
 use Rattle.bas_expr.proofs.MarkLaws.{goes_mark}
 use Rattle.bas_expr.proofs.ExpressionLaws.{expr_longest}
 use Rattle.bas_expr.proofs.ConditionLaws.{cond_longest}
-use Rattle.bas_declaration.specs.declared.TheConstants.{LEVELS}
+use Rattle.bas_expr.specs.declared.TheConstants.{LEVELS}
 use Rattle.bas_declaration.specs.Keywords.{keyword, at_word, then_word, spells}
 use Rattle.bas_declaration.specs.Parts.{Listed}
 use Rattle.bas_declaration.proofs.WordLaws.{word_longest, spells_inside, mark_longest, past_cond, some_word}

@@ -6,12 +6,12 @@ ghost use Rattle.bas_line.specs.Reading as reading;
 
 use bas_base::{Line, Seq};
 use bas_declaration::keyword::spells;
-use bas_expr::source::Source;
+use bas_expr::TokenLine;
 use bas_list::word::line_number;
 use std::alloc::{AllocError, Global};
 
 /// What an `ON` line does with the line that it chooses.
-#[derive(Clone, Copy, Debug, PartialEq, Eq)]
+#[derive(Clone, Copy)]
 pub enum Jump {
     Goto,
     Gosub,
@@ -19,7 +19,7 @@ pub enum Jump {
 
 /// `"GO" ( "TO" | "SUB" )`
 #[tactic(auto, unfolding(crate::specs::Reading::behind_go, bas_form::specs::Reader::either, bas_form::specs::Reader::built, bas_form::specs::Reader::both, bas_form::specs::Reader::terminal))]
-fn behind_go(line: &Source<'_>, at: usize) -> Option<(Jump, usize)>
+fn behind_go(line: &TokenLine<'_>, at: usize) -> Option<(Jump, usize)>
     ensures { result ≡ reading.behind_go line.now at }
 {
     let Some(()) = spells(line, at, b"GO") else {
@@ -37,7 +37,7 @@ fn behind_go(line: &Source<'_>, at: usize) -> Option<(Jump, usize)>
 
 /// `"GOTO" | "GOSUB"`, each of one word or of two
 #[tactic(auto, unfolding(crate::specs::Reading::one_jump, bas_form::specs::Reader::either, bas_form::specs::Reader::built, bas_form::specs::Reader::terminal))]
-pub fn jump_words(line: &Source<'_>, at: usize) -> Option<(Jump, usize)>
+pub fn jump_words(line: &TokenLine<'_>, at: usize) -> Option<(Jump, usize)>
     ensures { result ≡ reading.one_jump line.now at }
 {
     if let Some(()) = spells(line, at, b"GOTO") {
@@ -51,7 +51,7 @@ pub fn jump_words(line: &Source<'_>, at: usize) -> Option<(Jump, usize)>
 
 /// `"," number`
 #[tactic(auto, unfolding(bas_form::specs::Reader::built, bas_form::specs::Reader::both, bas_form::specs::Reader::terminal))]
-fn next_number(line: &Source<'_>, at: usize) -> Option<(Line, usize)>
+fn next_number(line: &TokenLine<'_>, at: usize) -> Option<(Line, usize)>
     ensures { result ≡ reading.next_number line.now at }
 {
     let Some(()) = line.comma(at) else {
@@ -67,7 +67,7 @@ fn next_number(line: &Source<'_>, at: usize) -> Option<(Line, usize)>
 /// `{ "," number }`
 fn more_numbers(
     alloc: Global,
-    line: &Source<'_>,
+    line: &TokenLine<'_>,
     mut at: usize,
     first: Line,
 ) -> Result<(Vec<Line>, usize), AllocError>
@@ -86,7 +86,7 @@ fn more_numbers(
 #[tactic(auto, unfolding(crate::specs::Reading::number_list, bas_form::specs::Reader::built, bas_form::specs::Reader::both, bas_form::specs::Reader::repeated, bas_form::specs::Reader::terminal))]
 pub fn number_list(
     alloc: Global,
-    line: &Source<'_>,
+    line: &TokenLine<'_>,
     at: usize,
 ) -> Result<Option<(Seq<Line>, usize)>, AllocError>
     ensures { IfOk result (λ o. o ≡ reading.number_list line.now at) }

@@ -8,8 +8,6 @@ mod jump;
 mod law;
 mod plain;
 mod simple;
-#[cfg(test)]
-mod tests;
 mod whole_line;
 mod word;
 

@@ -4,7 +4,7 @@ ghost use Rattle.std.specs.Prelude.{◌≡◌, IfOk};
 ghost use Rattle.bas_line.specs.Plains.{plain_at};
 
 use bas_ast::Plain;
-use bas_expr::source::Source;
+use bas_expr::TokenLine;
 use bas_record::record_statement;
 use bas_statement::statement;
 use std::alloc::{AllocError, Global};
@@ -13,7 +13,7 @@ use std::alloc::{AllocError, Global};
 #[tactic(auto, unfolding(crate::specs::Plains::plain_at, bas_form::specs::Reader::either))]
 pub fn plain_statement(
     alloc: Global,
-    line: &Source<'_>,
+    line: &TokenLine<'_>,
     at: usize,
 ) -> Result<Option<(Plain, usize)>, AllocError>
     ensures { IfOk result (λ o. o ≡ plain_at line.now at) }

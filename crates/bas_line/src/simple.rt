@@ -10,11 +10,8 @@ use crate::plain::plain_statement;
 use crate::word::if_word;
 use bas_ast::{Branch, Expr, Plain, Simple};
 use bas_base::{Line, Seq};
-use bas_declaration::LEVELS;
 use bas_declaration::keyword::{spells, then_word};
-use bas_expr::condition::cond;
-use bas_expr::expression::expr;
-use bas_expr::source::Source;
+use bas_expr::{LEVELS, TokenLine, longest_cond, longest_expr};
 use bas_list::word::line_number;
 use sqlite_items::Boxed;
 use std::alloc::{AllocError, Global};
@@ -23,7 +20,7 @@ type Read<T> = Result<Option<(T, usize)>, AllocError>;
 
 /// `number | plain`
 #[tactic(auto, unfolding(crate::specs::Reading::one_branch, bas_form::specs::Reader::either, bas_form::specs::Reader::built, bas_form::specs::Reader::terminal))]
-fn branch(alloc: Global, line: &Source<'_>, at: usize) -> Read<Branch>
+fn branch(alloc: Global, line: &TokenLine<'_>, at: usize) -> Read<Branch>
     ensures { IfOk result (λ o. o ≡ reading.one_branch line.now (plain_at line.now) at) }
 {
     if let Some(number) = line_number(line, at) {
@@ -37,7 +34,7 @@ fn branch(alloc: Global, line: &Source<'_>, at: usize) -> Read<Branch>
 
 /// `"ELSE" ( number | plain )`
 #[tactic(auto, unfolding(crate::specs::Reading::else_branch, bas_form::specs::Reader::built, bas_form::specs::Reader::both, bas_form::specs::Reader::terminal))]
-fn else_branch(alloc: Global, line: &Source<'_>, at: usize) -> Read<Branch>
+fn else_branch(alloc: Global, line: &TokenLine<'_>, at: usize) -> Read<Branch>
     ensures { IfOk result (λ o. o ≡ reading.else_branch line.now (plain_at line.now) at) }
 {
     let Some(()) = spells(line, at, b"ELSE") else {
@@ -51,7 +48,7 @@ fn else_branch(alloc: Global, line: &Source<'_>, at: usize) -> Read<Branch>
 
 /// `( number | plain ) [ "ELSE" ( number | plain ) ]`
 #[tactic(auto, unfolding(crate::specs::Reading::branches, bas_form::specs::Reader::both, bas_form::specs::Reader::optional))]
-fn branches(alloc: Global, line: &Source<'_>, at: usize) -> Read<(Branch, Option<Branch>)>
+fn branches(alloc: Global, line: &TokenLine<'_>, at: usize) -> Read<(Branch, Option<Branch>)>
     ensures { IfOk result (λ o. o ≡ reading.branches line.now (plain_at line.now) at) }
 {
     let Some((first, after)) = branch(alloc, line, at)? else {
@@ -65,7 +62,7 @@ fn branches(alloc: Global, line: &Source<'_>, at: usize) -> Read<(Branch, Option
 
 /// `"THEN" ( number | plain ) [ "ELSE" ( number | plain ) ]`
 #[tactic(auto, unfolding(crate::specs::Reading::then_branches, bas_form::specs::Reader::built, bas_form::specs::Reader::both, bas_form::specs::Reader::terminal))]
-fn then_branches(alloc: Global, line: &Source<'_>, at: usize) -> Read<(Branch, Option<Branch>)>
+fn then_branches(alloc: Global, line: &TokenLine<'_>, at: usize) -> Read<(Branch, Option<Branch>)>
     ensures { IfOk result (λ o. o ≡ reading.then_branches line.now (plain_at line.now) at) }
 {
     let Some(()) = then_word(line, at) else {
@@ -79,13 +76,13 @@ fn then_branches(alloc: Global, line: &Source<'_>, at: usize) -> Read<(Branch, O
 
 /// `"IF" cond "THEN" ( number | plain ) [ "ELSE" ( number | plain ) ]`
 #[tactic(auto, unfolding(crate::specs::Reading::if_line, bas_form::specs::Reader::built, bas_form::specs::Reader::both, bas_form::specs::Reader::terminal))]
-fn if_line(alloc: Global, line: &Source<'_>, at: usize) -> Read<Simple>
+fn if_line(alloc: Global, line: &TokenLine<'_>, at: usize) -> Read<Simple>
     ensures { IfOk result (λ o. o ≡ reading.if_line line.now (plain_at line.now) at) }
 {
     let Some(()) = if_word(line, at) else {
         return Ok(None);
     };
-    let Some((test, after)) = cond(alloc, line, at + 1, LEVELS)? else {
+    let Some((test, after)) = longest_cond(alloc, line, at + 1, LEVELS)? else {
         return Ok(None);
     };
     let Some(((first, other), end)) = then_branches(alloc, line, after)? else {
@@ -96,7 +93,7 @@ fn if_line(alloc: Global, line: &Source<'_>, at: usize) -> Read<Simple>
 
 /// `"ELSE" plain`
 #[tactic(auto, unfolding(crate::specs::Reading::else_plain, bas_form::specs::Reader::built, bas_form::specs::Reader::both, bas_form::specs::Reader::terminal))]
-fn else_plain(alloc: Global, line: &Source<'_>, at: usize) -> Read<Plain>
+fn else_plain(alloc: Global, line: &TokenLine<'_>, at: usize) -> Read<Plain>
     ensures { IfOk result (λ o. o ≡ reading.else_plain line.now (plain_at line.now) at) }
 {
     let Some(()) = spells(line, at, b"ELSE") else {
@@ -110,7 +107,7 @@ fn else_plain(alloc: Global, line: &Source<'_>, at: usize) -> Read<Plain>
 
 /// `number { "," number } [ "ELSE" plain ]`
 #[tactic(auto, unfolding(crate::specs::Reading::numbers, bas_form::specs::Reader::both, bas_form::specs::Reader::optional))]
-fn numbers(alloc: Global, line: &Source<'_>, at: usize) -> Read<(Seq<Line>, Option<Plain>)>
+fn numbers(alloc: Global, line: &TokenLine<'_>, at: usize) -> Read<(Seq<Line>, Option<Plain>)>
     ensures { IfOk result (λ o. o ≡ reading.numbers line.now (plain_at line.now) at) }
 {
     let Some((all, after)) = number_list(alloc, line, at)? else {
@@ -149,13 +146,13 @@ fn on(
 
 /// `"ON" expr ( "GOTO" | "GOSUB" ) number { "," number } [ "ELSE" plain ]`
 #[tactic(auto, unfolding(crate::specs::Reading::on_line, bas_form::specs::Reader::built, bas_form::specs::Reader::both, bas_form::specs::Reader::terminal))]
-fn on_line(alloc: Global, line: &Source<'_>, at: usize) -> Read<Simple>
+fn on_line(alloc: Global, line: &TokenLine<'_>, at: usize) -> Read<Simple>
     ensures { IfOk result (λ o. o ≡ reading.on_line line.now (plain_at line.now) at) }
 {
     let Some(()) = spells(line, at, b"ON") else {
         return Ok(None);
     };
-    let Some((value, after)) = expr(alloc, line, at + 1, LEVELS)? else {
+    let Some((value, after)) = longest_expr(alloc, line, at + 1, LEVELS)? else {
         return Ok(None);
     };
     let Some((way, behind)) = jump_words(line, after) else {
@@ -169,7 +166,7 @@ fn on_line(alloc: Global, line: &Source<'_>, at: usize) -> Read<Simple>
 
 /// The longest statement of a line from a place on, and the place after it.
 #[tactic(auto, unfolding(crate::specs::Reading::simple_at, bas_form::specs::Reader::either, bas_form::specs::Reader::built))]
-pub fn simple(alloc: Global, line: &Source<'_>, at: usize) -> Read<Simple>
+pub fn simple(alloc: Global, line: &TokenLine<'_>, at: usize) -> Read<Simple>
     ensures { IfOk result (λ o. o ≡ reading.simple_at line.now (plain_at line.now) at) }
 {
     if let Some((plain, after)) = plain_statement(alloc, line, at)? {

@@ -16,7 +16,7 @@ use crate::word::{line_ends, rem};
 use bas_ast::{Decl, LineItem};
 use bas_data::{data, data_word};
 use bas_declaration::{decl, part};
-use bas_expr::source::Source;
+use bas_expr::TokenLine;
 use bas_token::{Token, TokenFault, tokens};
 use sqlite_items::Boxed;
 use std::alloc::{AllocError, Global};
@@ -45,7 +45,7 @@ type Read = Result<Option<LineItem>, AllocError>;
 
 /// What was read, where the line ends behind it.
 #[tactic(auto, unfolding(crate::specs::Itemizing::ended))]
-fn ended<T: Drop>(line: &Source<'_>, found: Option<(T, usize)>) -> Option<T>
+fn ended<T: Drop>(line: &TokenLine<'_>, found: Option<(T, usize)>) -> Option<T>
     ensures { result ≡ reading.ended line.now found }
 {
     let (tree, after) = found?;
@@ -57,7 +57,7 @@ fn ended<T: Drop>(line: &Source<'_>, found: Option<(T, usize)>) -> Option<T>
 }
 
 /// The line of a construct, procedure or unit, where nothing stands behind it.
-fn whole_part(alloc: Global, line: &Source<'_>) -> Read
+fn whole_part(alloc: Global, line: &TokenLine<'_>) -> Read
     ensures { IfOk result (λ o. o ≡ reading.closed line.now tree.Part (part_at line.now 0)) }
 {
     match ended(line, part(alloc, line, 0)?) {
@@ -67,7 +67,7 @@ fn whole_part(alloc: Global, line: &Source<'_>) -> Read
 }
 
 /// The declaration, where nothing stands behind it.
-fn whole_decl(alloc: Global, line: &Source<'_>) -> Read
+fn whole_decl(alloc: Global, line: &TokenLine<'_>) -> Read
     ensures { IfOk result (λ o. o ≡ reading.closed line.now tree.Decl (decl_at line.now 0)) }
 {
     match ended(line, decl(alloc, line, 0)?) {
@@ -77,7 +77,7 @@ fn whole_decl(alloc: Global, line: &Source<'_>) -> Read
 }
 
 /// The statement, where nothing stands behind it.
-fn whole_simple(alloc: Global, line: &Source<'_>) -> Read
+fn whole_simple(alloc: Global, line: &TokenLine<'_>) -> Read
     ensures { IfOk result (λ o. o ≡ reading.closed line.now tree.Simple (simple_at line.now (plain_at line.now) 0)) }
 {
     match ended(line, simple(alloc, line, 0)?) {
@@ -87,7 +87,7 @@ fn whole_simple(alloc: Global, line: &Source<'_>) -> Read
 }
 
 /// A part, a declaration or a statement.
-fn worded(alloc: Global, line: &Source<'_>) -> Read
+fn worded(alloc: Global, line: &TokenLine<'_>) -> Read
     ensures { IfOk result (λ o. o ≡ reading.worded line.now (plain_at line.now)) }
 {
     if let Some(found) = whole_part(alloc, line)? {
@@ -101,7 +101,7 @@ fn worded(alloc: Global, line: &Source<'_>) -> Read
 
 /// The item of a line that is cut into tokens.
 #[tactic(auto, unfolding(crate::specs::Itemizing::item_by))]
-fn token_item(alloc: Global, line: &Source<'_>) -> Read
+fn token_item(alloc: Global, line: &TokenLine<'_>) -> Read
     ensures { IfOk result (λ o. o ≡ reading.item_by line.now (plain_at line.now)) }
 {
     if let Some(bytes) = rem(alloc, line, 0)? {
@@ -143,7 +143,7 @@ fn cut_item(alloc: Global, line: &[u8]) -> Result<LineItem, LineFault>
     ensures none { IsErrOf result LineFault.NotItem → reading.item_behind line.now plain_at None ≡ None }
 {
     let found = cut(alloc, line)?;
-    match token_item(alloc, &Source::new(line, &found))? {
+    match token_item(alloc, &TokenLine::new(line, &found))? {
         Some(item) => Ok(item),
         None => Err(LineFault::NotItem),
     }

@@ -8,12 +8,12 @@ ghost use Rattle.bas_line.specs.Itemizing as itemizing;
 
 use bas_base::Seq;
 use bas_declaration::keyword::{Keyword, word_at};
-use bas_expr::source::Source;
+use bas_expr::TokenLine;
 use bas_token::TokenKind;
 use std::alloc::{AllocError, Global};
 
 /// The `IF` at a place.
-pub fn if_word(line: &Source<'_>, at: usize) -> Option<()>
+pub fn if_word(line: &TokenLine<'_>, at: usize) -> Option<()>
     ensures value { result ≡ at_word words.if_word line.now at }
     ensures within { IfSome result (λ _. at < 4096) }
 {
@@ -25,7 +25,7 @@ pub fn if_word(line: &Source<'_>, at: usize) -> Option<()>
 
 /// The `!` of the remark at a place.
 #[tactic(auto, unfolding(crate::specs::Words::exclaimed, bas_form::specs::Element::element_at))]
-fn exclaimed(line: &Source<'_>, at: usize) -> Option<()>
+fn exclaimed(line: &TokenLine<'_>, at: usize) -> Option<()>
     ensures { result ≡ words.exclaimed line.now at }
 {
     match line.lexeme(at) {
@@ -36,7 +36,7 @@ fn exclaimed(line: &Source<'_>, at: usize) -> Option<()>
 
 /// Whether the line ends at a place.
 #[tactic(auto, unfolding(crate::specs::Itemizing::line_ends))]
-pub fn line_ends(line: &Source<'_>, at: usize) -> bool
+pub fn line_ends(line: &TokenLine<'_>, at: usize) -> bool
     ensures { result ≡ itemizing.line_ends line.now at }
 {
     at == line.len() || exclaimed(line, at).is_some()
@@ -69,7 +69,7 @@ fn behind_rem(alloc: Global, text: &[u8]) -> Result<Option<Seq<u8>>, AllocError>
 
 /// The bytes of the remark at a place, where it begins with `REM`.
 #[tactic(auto, unfolding(crate::specs::Words::rem, bas_form::specs::Element::element_at))]
-pub fn rem(alloc: Global, line: &Source<'_>, at: usize) -> Result<Option<Seq<u8>>, AllocError>
+pub fn rem(alloc: Global, line: &TokenLine<'_>, at: usize) -> Result<Option<Seq<u8>>, AllocError>
     ensures { IfOk result (λ o. o ≡ words.rem line.now at) }
 {
     match line.lexeme(at) {

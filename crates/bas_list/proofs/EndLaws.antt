@@ -14,10 +14,10 @@ use Rattle.bas_expr.specs.Marks.{mark_of, mark, at_mark, comma, opening, sign_of
 use Rattle.bas_expr.specs.Words.{name_of_text, name_of, any_name, numeral_of_lexeme, numeral, quoted_of, quoted, connective_of_text, connective_of, connective}
 use Rattle.bas_expr.specs.Reading.{GoesExpr}
 use Rattle.bas_expr.proofs.MarkLaws.{goes_mark}
-use Rattle.bas_declaration.specs.Keywords.{same_word}
+use Rattle.bas_declaration.specs.Keywords.{same_word, spelling, spells}
 use Rattle.bas_declaration.specs.Digits.{of_numeral}
 use Rattle.bas_declaration.proofs.WordLaws.{same_word_is}
-use Rattle.bas_list.specs.Words.{tab_of, tab_word, line_number_of_text, line_number, ending_of, ending, Ends}
+use Rattle.bas_list.specs.Words.{line_number_of_text, line_number, ending_of, ending, Ends}
 use Rattle.bas_list.specs.Reading.{GoesList}
 use Rattle.bas_list.proofs.FrontLaws.{Front}
 
@@ -43,7 +43,7 @@ else_no_tab t e = let n = other_word (codes "ELSE") (codes "TAB") t e refl in rw
 
 -- none of the tokens that lists are made of
 abbrev None5 : Option Lexeme → Type 0
-None5 o = (passing mark_of o ≡ None) × (passing numeral_of_lexeme o ≡ None) × (passing quoted_of o ≡ None) × (passing name_of o ≡ None) × (passing tab_of o ≡ None)
+None5 o = (passing mark_of o ≡ None) × (passing numeral_of_lexeme o ≡ None) × (passing quoted_of o ≡ None) × (passing name_of o ≡ None) × (passing (spelling (codes "TAB")) o ≡ None)
 
 ends_kind : (o : Option Lexeme) (u : Unit {0}) → passing ending_of o ≡ Some u → None5 o
 ends_kind None u e = absurd (cc)
@@ -77,8 +77,8 @@ none_is o e h = let g = rw e at h in absurd (cc)
 
 module _ (tokens : List Lexeme) (n : ℕ) where
   -- no mark, numeral, quoted text, name or TAB ends a statement
-  pub ends_at : Ends tokens n → (mark tokens n ≡ None) × (numeral tokens n ≡ None) × (quoted tokens n ≡ None) × (any_name tokens n ≡ None) × (tab_word tokens n ≡ None)
-  unfolding ending mark numeral quoted any_name tab_word element_at
+  pub ends_at : Ends tokens n → (mark tokens n ≡ None) × (numeral tokens n ≡ None) × (quoted tokens n ≡ None) × (any_name tokens n ≡ None) × (spells (codes "TAB") tokens n ≡ None)
+  unfolding ending mark numeral quoted any_name spells element_at
   ends_at (inl past) = nothing_there (slice_get tokens n) (slice_get_past tokens n past)
   ends_at (inr h) = let u = value_of (passing ending_of (slice_get tokens n)) h in ends_kind (slice_get tokens n) u.0 u.1
 
@@ -91,8 +91,8 @@ module _ (tokens : List Lexeme) (n : ℕ) where
   pub mark_ends : {A : Type 0} (f : Mark → Option A) → Ends tokens n → IsSome (at_mark f tokens n) → ⊥
   mark_ends f ends h = none_by (mark tokens n) f (ends_at ends).0 h
 
-  pub tab_ends : Ends tokens n → IsSome (tab_word tokens n) → ⊥
-  tab_ends ends h = none_is (tab_word tokens n) (ends_at ends).4 h
+  pub tab_ends : Ends tokens n → IsSome (spells (codes "TAB") tokens n) → ⊥
+  tab_ends ends h = none_is (spells (codes "TAB") tokens n) (ends_at ends).4 h
 
   pub front_ends : Ends tokens n → Front tokens n → ⊥
   front_ends ends (inl h) = mark_ends sign_of ends h

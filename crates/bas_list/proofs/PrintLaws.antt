@@ -25,12 +25,13 @@ use Rattle.bas_expr.specs.Reading.{GoesExpr}
 use Rattle.bas_expr.proofs.MarkLaws.{stops, numeral_first, quoted_first, name_first}
 use Rattle.bas_expr.proofs.SeparatedLaws.{behind_longest, separator_first}
 use Rattle.bas_expr.proofs.ExpressionLaws.{expr_longest}
-use Rattle.bas_declaration.specs.declared.TheConstants.{LEVELS}
+use Rattle.bas_expr.specs.declared.TheConstants.{LEVELS}
+use Rattle.bas_declaration.specs.Keywords.{spelling, spells}
 use Rattle.bas_declaration.specs.Parts.{E}
 use Rattle.bas_declaration.proofs.PartLaws.{enclosed_longest, an_expr}
 use Rattle.bas_declaration.proofs.WordLaws.{same_word_is, mark_longest}
 use Rattle.bas_list.specs.declared.TheConstants.{INNER_LEVELS}
-use Rattle.bas_list.specs.Words.{separator_of, tab_of, tab_word, Ends}
+use Rattle.bas_list.specs.Words.{separator_of, Ends}
 use Rattle.bas_list.specs.Lists.{Inner, IsPitem, IsNext, IsPlist, plist_of}
 use Rattle.bas_list.specs.Reading.{enclosed_expr, tab_item, print_item, next_item, print_list, GoesPrint}
 use Rattle.bas_list.proofs.FrontLaws.{Front, expr_front}
@@ -79,7 +80,7 @@ tab_no_name t true ei e =
     rw (ei, n, l, p, r, e) refl
 tab_no_name t false ei e = rw ei refl
 
-tab_kind : (o : Option Lexeme) (u : Unit {0}) → passing tab_of o ≡ Some u → (passing mark_of o ≡ None) × (passing numeral_of_lexeme o ≡ None) × (passing quoted_of o ≡ None) × (passing name_of o ≡ None)
+tab_kind : (o : Option Lexeme) (u : Unit {0}) → passing (spelling (codes "TAB")) o ≡ Some u → (passing mark_of o ≡ None) × (passing numeral_of_lexeme o ≡ None) × (passing quoted_of o ≡ None) × (passing name_of o ≡ None)
 tab_kind None u e = absurd (cc)
 tab_kind (Some (kind.Word, t)) u e = (refl, refl, refl, tab_no_name t (is_name t) refl (same_word_is (codes "TAB") t u e))
 tab_kind (Some (kind.Numeral, t)) u e = absurd (cc)
@@ -97,16 +98,16 @@ no_value : {A : Type 0} (o : Option A) → o ≡ None → IsSome o → ⊥
 no_value o e h = let g = rw e at h in absurd (cc)
 
 module _ (tokens : List Lexeme) where
-  tab_inside : (at : ℕ) (u : Unit {0}) → tab_word tokens at ≡ Some u → at < length tokens
-  unfolding tab_word
-  tab_inside at u e = element_inside tab_of tokens at u e
+  tab_inside : (at : ℕ) (u : Unit {0}) → spells (codes "TAB") tokens at ≡ Some u → at < length tokens
+  unfolding spells
+  tab_inside at u e = element_inside (spelling (codes "TAB")) tokens at u e
 
   module _ (n : ℕ) where
-    tab_first : (u : Unit {0}) → tab_word tokens n ≡ Some u → (mark tokens n ≡ None) × (numeral tokens n ≡ None) × (quoted tokens n ≡ None) × (any_name tokens n ≡ None)
-    unfolding tab_word mark numeral quoted any_name element_at
+    tab_first : (u : Unit {0}) → spells (codes "TAB") tokens n ≡ Some u → (mark tokens n ≡ None) × (numeral tokens n ≡ None) × (quoted tokens n ≡ None) × (any_name tokens n ≡ None)
+    unfolding spells mark numeral quoted any_name element_at
     tab_first u e = tab_kind (slice_get tokens n) u e
 
-    tab_no_front : (u : Unit {0}) → tab_word tokens n ≡ Some u → Front tokens n → ⊥
+    tab_no_front : (u : Unit {0}) → spells (codes "TAB") tokens n ≡ Some u → Front tokens n → ⊥
     tab_no_front u e (inl h) = no_some (mark tokens n) sign_of (tab_first u e).0 h
     tab_no_front u e (inr (inl h)) = no_some (mark tokens n) opening (tab_first u e).0 h
     tab_no_front u e (inr (inr (inl h))) = no_value (numeral tokens n) (tab_first u e).1 h
@@ -130,7 +131,7 @@ module _ (tokens : List Lexeme) where
     pub before_expr : Front tokens n → at_mark separator_of tokens n ≡ None
     before_expr h = front_mark separator_of (past_sign (mark tokens n)) (past_opening (mark tokens n)) h
 
-    before_tab : (u : Unit {0}) → tab_word tokens n ≡ Some u → at_mark separator_of tokens n ≡ None
+    before_tab : (u : Unit {0}) → spells (codes "TAB") tokens n ≡ Some u → at_mark separator_of tokens n ≡ None
     before_tab u e = none_by (mark tokens n) separator_of (tab_first u e).0
 
   -- ---- items
@@ -142,16 +143,16 @@ module _ (tokens : List Lexeme) where
   unfolding enclosed_expr
   enclosed_expr_longest = weaker (enclosed_longest tokens (expr_longest tokens INNER_LEVELS) not_closed) (λ _. ⊥) 3 (λ n z. z) (omega arith)
 
-  tab_item_longest : ReadsLongest (length tokens) (1 + 3) (Behind (tab_word tokens) (Parenthesized tokens (Inner tokens))) (λ _. ⊥) (tab_item tokens)
+  tab_item_longest : ReadsLongest (length tokens) (1 + 3) (Behind (spells (codes "TAB") tokens) (Parenthesized tokens (Inner tokens))) (λ _. ⊥) (tab_item tokens)
   unfolding tab_item
-  tab_item_longest = behind_longest (tab_word tokens) tab_inside enclosed_expr_longest (λ n z. absurd z)
+  tab_item_longest = behind_longest (spells (codes "TAB") tokens) tab_inside enclosed_expr_longest (λ n z. absurd z)
 
-  tab_stands : (n : ℕ) (b : Expr) (k : ℕ) → Behind (tab_word tokens) (Parenthesized tokens (Inner tokens)) n b k → IsSome (tab_word tokens n)
-  tab_stands n b k h = separator_first (tab_word tokens) tab_inside enclosed_expr_longest (λ n z. absurd z) n b k h
+  tab_stands : (n : ℕ) (b : Expr) (k : ℕ) → Behind (spells (codes "TAB") tokens) (Parenthesized tokens (Inner tokens)) n b k → IsSome (spells (codes "TAB") tokens n)
+  tab_stands n b k h = separator_first (spells (codes "TAB") tokens) tab_inside enclosed_expr_longest (λ n z. absurd z) n b k h
 
-  item_apart : (n : ℕ) (a : Pitem) (i : ℕ) → Built pitem.Expr (E tokens) n a i → (b : Pitem) (j : ℕ) → Built pitem.Tab (Behind (tab_word tokens) (Parenthesized tokens (Inner tokens))) n b j → ⊥
+  item_apart : (n : ℕ) (a : Pitem) (i : ℕ) → Built pitem.Expr (E tokens) n a i → (b : Pitem) (j : ℕ) → Built pitem.Tab (Behind (spells (codes "TAB") tokens) (Parenthesized tokens (Inner tokens))) n b j → ⊥
   item_apart n a i h b j q =
-      let t = value_of (tab_word tokens n) (tab_stands n q.0 j q.2) in
+      let t = value_of (spells (codes "TAB") tokens n) (tab_stands n q.0 j q.2) in
       tab_no_front n t.0 t.1 (expr_front tokens LEVELS n h.0 i h.2)
 
   pub item_longest : ReadsLongest (length tokens) 1 (IsPitem tokens) (GoesExpr tokens) (print_item tokens)
@@ -160,13 +161,13 @@ module _ (tokens : List Lexeme) where
       (GoesExpr tokens) 1 (λ n g. elim g as (λ _. GoesExpr tokens n) [ inl d ↦ d | inr d ↦ d ]) (omega arith)
 
   -- what stands where an item begins
-  pub item_starts : (n : ℕ) (b : Pitem) (k : ℕ) → IsPitem tokens n b k → Front tokens n ⊎ IsSome (tab_word tokens n)
+  pub item_starts : (n : ℕ) (b : Pitem) (k : ℕ) → IsPitem tokens n b k → Front tokens n ⊎ IsSome (spells (codes "TAB") tokens n)
   item_starts n b k (inl h) = inl (expr_front tokens LEVELS n h.0 k h.2)
   item_starts n b k (inr h) = inr (tab_stands n h.0 k h.2)
 
-  start_no_separator : (n : ℕ) → (Front tokens n ⊎ IsSome (tab_word tokens n)) → at_mark separator_of tokens n ≡ None
+  start_no_separator : (n : ℕ) → (Front tokens n ⊎ IsSome (spells (codes "TAB") tokens n)) → at_mark separator_of tokens n ≡ None
   start_no_separator n (inl h) = before_expr n h
-  start_no_separator n (inr h) = let t = value_of (tab_word tokens n) h in before_tab n t.0 t.1
+  start_no_separator n (inr h) = let t = value_of (spells (codes "TAB") tokens n) h in before_tab n t.0 t.1
 
   -- where an item or nothing may go on
   abbrev GoesItem : ℕ → Type 0
@@ -175,7 +176,7 @@ module _ (tokens : List Lexeme) where
   perhaps_item_longest : ReadsLongest (length tokens) 0 (Optional (IsPitem tokens)) GoesItem (optional (print_item tokens))
   perhaps_item_longest = optional_longest item_longest one
 
-  begins_starts : (n : ℕ) → Begins (print_item tokens) n → Front tokens n ⊎ IsSome (tab_word tokens n)
+  begins_starts : (n : ℕ) → Begins (print_item tokens) n → Front tokens n ⊎ IsSome (spells (codes "TAB") tokens n)
   begins_starts n h = let b = begun item_longest n h in item_starts n b.0 b.1 b.2
 
   item_no_separator : (n : ℕ) → GoesItem n → at_mark separator_of tokens n ≡ None
@@ -205,7 +206,7 @@ module _ (tokens : List Lexeme) where
   unfolding print_list
   print_list_longest = weaker (built_longest plist_of (repeating_longest perhaps_item_longest next_item_longest one_and_none before_next before_next)) (GoesPrint tokens) 0 goes_print (omega arith)
 
-  start_ends : (n : ℕ) → Ends tokens n → (Front tokens n ⊎ IsSome (tab_word tokens n)) → ⊥
+  start_ends : (n : ℕ) → Ends tokens n → (Front tokens n ⊎ IsSome (spells (codes "TAB") tokens n)) → ⊥
   start_ends n ends (inl h) = front_ends tokens n ends h
   start_ends n ends (inr h) = tab_ends tokens n ends h
 

@@ -1,5 +1,5 @@
 -- The grammar of the lists that statements share, one form for each production.
-use Rattle.std.specs.Prelude.{ℕ, List, Option}
+use Rattle.std.specs.Prelude.{ℕ, List, Option, codes}
 use Rattle.bas_form.specs.Form.{Form, Terminal, ◌then◌, Optional, ◌or◌, Built, ◌repeating◌}
 use Rattle.bas_ast.specs.declared.expression.Expr.{Expr}
 use Rattle.bas_ast.specs.declared.expression.Target.{Target}
@@ -14,7 +14,8 @@ use Rattle.bas_expr.specs.Separated.{Behind}
 use Rattle.bas_expr.specs.Grammar.{IsExpr, IsTarget, Parenthesized}
 use Rattle.bas_declaration.specs.Parts.{Listed, E}
 use Rattle.bas_list.specs.declared.TheConstants.{INNER_LEVELS}
-use Rattle.bas_list.specs.Words.{separator_of, tab_word}
+use Rattle.bas_declaration.specs.Keywords.{spells}
+use Rattle.bas_list.specs.Words.{separator_of}
 
 -- targets in a list
 abbrev pub targets_of : List Target → Targets
@@ -43,7 +44,7 @@ module _ (tokens : List Lexeme) where
 
   -- pitem = expr | "TAB" "(" expr ")"
   abbrev pub IsPitem : Form Pitem
-  IsPitem = Built pitem.Expr (E tokens) or Built pitem.Tab (Behind (tab_word tokens) (Parenthesized tokens Inner))
+  IsPitem = Built pitem.Expr (E tokens) or Built pitem.Tab (Behind (spells (codes "TAB") tokens) (Parenthesized tokens Inner))
 
   -- sep [ pitem ]
   abbrev pub IsNext : Form (Sep × Option Pitem)

@@ -1,5 +1,5 @@
 -- How the list that a token begins is read, in one pass from the left.
-use Rattle.std.specs.Prelude.{ℕ, ◌⊎◌, List, ◌∷◌, length, Option, IsSome}
+use Rattle.std.specs.Prelude.{ℕ, ◌⊎◌, List, ◌∷◌, length, Option, IsSome, codes}
 use Rattle.bas_form.specs.Reader.{Reader, terminal, ◌followed_by◌, optional, repeated, either, built, ◌maybe◌, Begins}
 use Rattle.bas_ast.specs.declared.expression.Expr.{Expr}
 use Rattle.bas_ast.specs.declared.expression.Target.{Target}
@@ -16,7 +16,8 @@ use Rattle.bas_expr.specs.Grammar.{target_of}
 use Rattle.bas_expr.specs.Reading.{parenthesized, expr, GoesExpr}
 use Rattle.bas_declaration.specs.Reading.{listed, e}
 use Rattle.bas_list.specs.declared.TheConstants.{INNER_LEVELS}
-use Rattle.bas_list.specs.Words.{separator_of, tab_word}
+use Rattle.bas_declaration.specs.Keywords.{spells}
+use Rattle.bas_list.specs.Words.{separator_of}
 use Rattle.bas_list.specs.Lists.{targets_of, plist_of}
 
 -- the items of a list with a first one
@@ -55,7 +56,7 @@ module _ (tokens : List Lexeme) where
   enclosed_expr = parenthesized tokens inner
 
   unfoldable pub tab_item : Reader Expr
-  tab_item = behind (tab_word tokens) enclosed_expr
+  tab_item = behind (spells (codes "TAB") tokens) enclosed_expr
 
   unfoldable pub print_item : Reader Pitem
   print_item = either (built pitem.Expr (e tokens)) (built pitem.Tab tab_item)

@@ -22,18 +22,6 @@ separator_of _ = None
 abbrev pub separator_of_text : List ℕ → Option Sep
 separator_of_text text = mark_of_text text >>= separator_of
 
--- "TAB"
-abbrev pub tab_of : Lexeme → Option (Unit {0})
-tab_of (kind.Word, text) = same_word (codes "TAB") text
-tab_of (kind.Numeral, text) = None
-tab_of (kind.Quoted, text) = None
-tab_of (kind.Sign, text) = None
-tab_of (kind.Remark, text) = None
-
--- the TAB at a place
-unfoldable pub tab_word : List Lexeme → ℕ → Option (Unit {0})
-tab_word tokens at = element_at tab_of tokens at
-
 -- a line has a number from 1 to 99999
 abbrev pub line_of : ℕ → Option ℕ
 line_of n = if nat_le 1 n && nat_le n 99999 then Some n else None

@@ -8,12 +8,10 @@
 mod law;
 mod print_item;
 mod target;
-#[cfg(test)]
-mod tests;
 mod value;
 pub mod word;
 
-pub use law::{ends_law, print_list_law, targets_law, values_law};
+pub use law::{enclosed_values_law, ends_law, print_list_law, targets_law, values_law};
 pub use print_item::print_list;
 pub use target::targets;
 pub use value::{enclosed_values, values};

@@ -8,7 +8,7 @@ ghost use Rattle.bas_list.specs.Reading as reading;
 use crate::value::enclosed_values;
 use bas_ast::{Expr, Target, Targets};
 use bas_base::Seq;
-use bas_expr::source::Source;
+use bas_expr::TokenLine;
 use sqlite_items::Items;
 use std::alloc::{AllocError, Global};
 
@@ -16,7 +16,7 @@ type Read<T> = Result<Option<(T, usize)>, AllocError>;
 
 /// `"(" expr { "," expr } ")"`
 #[tactic(auto, using(crate::proofs::ListLaws::subscripts_listed))]
-fn subscripts(alloc: Global, line: &Source<'_>, at: usize) -> Read<Seq<Expr>>
+fn subscripts(alloc: Global, line: &TokenLine<'_>, at: usize) -> Read<Seq<Expr>>
     ensures { IfOk result (λ o. o ≡ option_map reading.in_list (reading.subscripts line.now at)) }
 {
     enclosed_values(alloc, line, at)
@@ -24,7 +24,7 @@ fn subscripts(alloc: Global, line: &Source<'_>, at: usize) -> Read<Seq<Expr>>
 
 /// `name [ "(" expr { "," expr } ")" ]`
 #[tactic(auto, unfolding(crate::specs::Reading::one_target, bas_form::specs::Reader::built, bas_form::specs::Reader::both, bas_form::specs::Reader::optional, bas_form::specs::Reader::terminal))]
-pub fn target(alloc: Global, line: &Source<'_>, at: usize) -> Read<Target>
+pub fn target(alloc: Global, line: &TokenLine<'_>, at: usize) -> Read<Target>
     ensures { IfOk result (λ o. o ≡ reading.one_target line.now at) }
 {
     let Some(name) = line.own_name(at) else {
@@ -45,7 +45,7 @@ pub fn target(alloc: Global, line: &Source<'_>, at: usize) -> Read<Target>
 
 /// `"," target`
 #[tactic(auto, unfolding(bas_form::specs::Reader::built, bas_form::specs::Reader::both, bas_form::specs::Reader::terminal))]
-fn next_target(alloc: Global, line: &Source<'_>, at: usize) -> Read<Target>
+fn next_target(alloc: Global, line: &TokenLine<'_>, at: usize) -> Read<Target>
     ensures { IfOk result (λ o. o ≡ reading.next_target line.now at) }
 {
     let Some(()) = line.comma(at) else {
@@ -60,7 +60,7 @@ fn next_target(alloc: Global, line: &Source<'_>, at: usize) -> Read<Target>
 /// `{ "," target }`
 fn more_targets(
     alloc: Global,
-    line: &Source<'_>,
+    line: &TokenLine<'_>,
     mut at: usize,
     first: Target,
 ) -> Result<(Vec<Target>, usize), AllocError>
@@ -77,7 +77,7 @@ fn more_targets(
 
 /// `target { "," target }`
 #[tactic(auto, unfolding(crate::specs::Reading::target_list, bas_form::specs::Reader::built, bas_form::specs::Reader::both, bas_form::specs::Reader::repeated))]
-fn target_list(alloc: Global, line: &Source<'_>, at: usize) -> Read<Seq<Target>>
+fn target_list(alloc: Global, line: &TokenLine<'_>, at: usize) -> Read<Seq<Target>>
     ensures { IfOk result (λ o. o ≡ reading.target_list line.now at) }
 {
     let Some((first, after)) = target(alloc, line, at)? else {
@@ -89,7 +89,7 @@ fn target_list(alloc: Global, line: &Source<'_>, at: usize) -> Read<Seq<Target>>
 
 /// `target { "," target }`
 #[tactic(auto, unfolding(crate::specs::Reading::targets, bas_form::specs::Reader::built))]
-pub fn targets(alloc: Global, line: &Source<'_>, at: usize) -> Read<Targets>
+pub fn targets(alloc: Global, line: &TokenLine<'_>, at: usize) -> Read<Targets>
     ensures { IfOk result (λ o. o ≡ reading.targets line.now at) }
 {
     let Some((targets, after)) = target_list(alloc, line, at)? else {

@@ -7,21 +7,20 @@ ghost use Rattle.bas_list.specs.Reading as reading;
 use crate::INNER_LEVELS;
 use bas_ast::Expr;
 use bas_base::Seq;
-use bas_expr::expression::expr;
-use bas_expr::source::Source;
+use bas_expr::{TokenLine, longest_expr};
 use std::alloc::{AllocError, Global};
 
 type Read<T> = Result<Option<(T, usize)>, AllocError>;
 
 /// `"," expr`
 #[tactic(auto, unfolding(bas_form::specs::Reader::built, bas_form::specs::Reader::both, bas_form::specs::Reader::terminal))]
-fn next_value(alloc: Global, line: &Source<'_>, at: usize, depth: usize) -> Read<Expr>
+fn next_value(alloc: Global, line: &TokenLine<'_>, at: usize, depth: usize) -> Read<Expr>
     ensures { IfOk result (λ o. o ≡ reading.next_value line.now depth at) }
 {
     let Some(()) = line.comma(at) else {
         return Ok(None);
     };
-    let Some((next, after)) = expr(alloc, line, at + 1, depth)? else {
+    let Some((next, after)) = longest_expr(alloc, line, at + 1, depth)? else {
         return Ok(None);
     };
     Ok(Some((next, after)))
@@ -30,7 +29,7 @@ fn next_value(alloc: Global, line: &Source<'_>, at: usize, depth: usize) -> Read
 /// `{ "," expr }`
 fn more_values(
     alloc: Global,
-    line: &Source<'_>,
+    line: &TokenLine<'_>,
     mut at: usize,
     depth: usize,
     first: Expr,
@@ -48,10 +47,10 @@ fn more_values(
 
 /// `expr { "," expr }`, with parentheses nested less deep than `depth`.
 #[tactic(auto, unfolding(crate::specs::Reading::values, bas_form::specs::Reader::built, bas_form::specs::Reader::both, bas_form::specs::Reader::repeated))]
-pub fn values(alloc: Global, line: &Source<'_>, at: usize, depth: usize) -> Read<Seq<Expr>>
+pub fn values(alloc: Global, line: &TokenLine<'_>, at: usize, depth: usize) -> Read<Seq<Expr>>
     ensures { IfOk result (λ o. o ≡ reading.values line.now depth at) }
 {
-    let Some((first, after)) = expr(alloc, line, at, depth)? else {
+    let Some((first, after)) = longest_expr(alloc, line, at, depth)? else {
         return Ok(None);
     };
     let (all, end) = more_values(alloc, line, after, depth, first)?;
@@ -60,7 +59,7 @@ pub fn values(alloc: Global, line: &Source<'_>, at: usize, depth: usize) -> Read
 
 /// `"(" expr { "," expr } ")"`
 #[tactic(auto, unfolding(crate::specs::Reading::enclosed_values, bas_form::specs::Reader::built, bas_form::specs::Reader::both, bas_form::specs::Reader::terminal))]
-pub fn enclosed_values(alloc: Global, line: &Source<'_>, at: usize) -> Read<Seq<Expr>>
+pub fn enclosed_values(alloc: Global, line: &TokenLine<'_>, at: usize) -> Read<Seq<Expr>>
     ensures { IfOk result (λ o. o ≡ reading.enclosed_values line.now at) }
 {
     let Some(()) = line.opening(at) else {

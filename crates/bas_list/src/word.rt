@@ -7,7 +7,7 @@ ghost use Rattle.bas_list.specs.Words as words;
 use bas_ast::Sep;
 use bas_base::Line;
 use bas_declaration::digits::digits_of_text;
-use bas_expr::source::Source;
+use bas_expr::TokenLine;
 use bas_token::TokenKind;
 
 fn separator_of_text(text: &[u8]) -> Option<Sep>
@@ -22,24 +22,12 @@ fn separator_of_text(text: &[u8]) -> Option<Sep>
 
 /// The `,` or `;` at a place.
 #[tactic(auto, unfolding(bas_expr::specs::Marks::mark, bas_form::specs::Element::element_at))]
-pub fn separator(line: &Source<'_>, at: usize) -> Option<Sep>
+pub fn separator(line: &TokenLine<'_>, at: usize) -> Option<Sep>
     ensures value { result ≡ at_mark words.separator_of line.now at }
     ensures within { IfSome result (λ _. at < 4096) }
 {
     match line.lexeme(at) {
         Some((TokenKind::Sign, text)) => separator_of_text(text),
-        _ => None,
-    }
-}
-
-/// The `TAB` at a place.
-#[tactic(auto, unfolding(crate::specs::Words::tab_word, bas_form::specs::Element::element_at))]
-pub fn tab_word(line: &Source<'_>, at: usize) -> Option<()>
-    ensures value { result ≡ words.tab_word line.now at }
-    ensures within { IfSome result (λ _. at < 4096) }
-{
-    match line.lexeme(at) {
-        Some((TokenKind::Word, text)) if text.eq_ignore_ascii_case(b"TAB") => Some(()),
         _ => None,
     }
 }
@@ -55,7 +43,7 @@ fn line_number_of_text(text: &[u8]) -> Option<Line>
 
 /// The line number at a place: 1 to 8 digits that write 1 to 99999.
 #[tactic(auto, unfolding(crate::specs::Words::line_number, bas_form::specs::Element::element_at))]
-pub fn line_number(line: &Source<'_>, at: usize) -> Option<Line>
+pub fn line_number(line: &TokenLine<'_>, at: usize) -> Option<Line>
     ensures value { result ≡ words.line_number line.now at }
     ensures within { IfSome result (λ _. at < 4096) }
 {
@@ -67,7 +55,7 @@ pub fn line_number(line: &Source<'_>, at: usize) -> Option<Line>
 
 /// The remark or the `ELSE` at a place, which end a statement.
 #[tactic(auto, unfolding(crate::specs::Words::ending, bas_form::specs::Element::element_at))]
-pub fn ending(line: &Source<'_>, at: usize) -> Option<()>
+pub fn ending(line: &TokenLine<'_>, at: usize) -> Option<()>
     ensures value { result ≡ words.ending line.now at }
     ensures within { IfSome result (λ _. at < 4096) }
 {

@@ -1,9 +1,9 @@
 -- The laws of reading.
-use Rattle.std.proofs.Common.{◌≡◌, ℕ, List, [], ◌∷◌, ◌++◌, Option, Some, None, Result, Ok, Err, refl, ap, sym, ◌∙◌}
+use Rattle.std.proofs.Common.{◌≡◌, ℕ, List, [], ◌∷◌, ◌++◌, Option, Some, None, Result, Ok, Err, refl, ap, sym, ◌∙◌, subst, append_assoc}
 use Rattle.bas_ast.specs.Tree.{NumLine, SourceUnit}
 use Rattle.bas_nest.specs.Units.{AreUnits}
 use Rattle.bas_nest.specs.Reading.{Open, Outside, Within, Between, Reading, reading, nothing_read, read, read_on, line_read, unclosed}
-use Rattle.bas_nest.specs.Laws.{ReadsUnits, OneReading, RefusedForEver, CanBeClosed, NoneUnclosed}
+use Rattle.bas_nest.specs.Laws.{ReadsUnits, OneReading, RefusedForEver, CanBeClosed, CanGoOn, FirstRefused, NoneUnclosed}
 use Rattle.bas_nest.proofs.CompleteUnits.{units_read}
 use Rattle.bas_nest.proofs.SoundUnits.{read_is}
 use Rattle.bas_nest.proofs.Closing.{can_be_closed}
@@ -51,6 +51,33 @@ refused_for_ever before behind line r units e none h =
 
 pub closes_all : CanBeClosed
 closes_all = can_be_closed
+
+-- the first line that is refused, between those before it and those behind it
+abbrev Refused : List NumLine → Reading → ℕ → Type 0
+Refused lines start number =
+    (before : List NumLine) × (line : NumLine) × (behind : List NumLine) × (r : Reading) × (lines ≡ before ++ line ∷ behind)
+    × (line.line ≡ number) × (read start before ≡ Ok r) × (line_read r line ≡ None)
+
+refused_behind : (o : Option Reading) (line : NumLine) (lines : List NumLine) (start : Reading) (number : ℕ) → line_read start line ≡ o →
+    read_on o line.line (λ (r1 : Reading). read r1 lines) ≡ Err number → ((r1 : Reading) → read r1 lines ≡ Err number → Refused lines r1 number) → Refused (line ∷ lines) start number
+unfolding read
+refused_behind None line lines start number is e go = let same : line.line ≡ number = cc in ([], line, lines, start, refl, same, refl, is)
+refused_behind (Some r1) line lines start number is e go =
+    let h = go r1 e in
+    let first : read start (line ∷ h.0) ≡ Ok h.3 = ap (λ (o : Option Reading). read_on o line.line (λ (r2 : Reading). read r2 h.0)) is ∙ h.6 in
+    (line ∷ h.0, h.1, h.2, h.3, ap (λ (ls : List NumLine). line ∷ ls) h.4, h.5, first, h.7)
+
+refused_in : (lines : List NumLine) (start : Reading) (number : ℕ) → read start lines ≡ Err number → Refused lines start number
+unfolding read
+refused_in [] start number e = absurd (cc)
+refused_in (line ∷ lines) start number e = refused_behind (line_read start line) line lines start number refl e (λ r1 h. refused_in lines r1 number h)
+
+pub first_refused : FirstRefused
+first_refused lines number e =
+    let f = refused_in lines nothing_read number e in
+    let none : CanGoOn (f.0 ++ f.1 ∷ []) → ⊥ =
+    λ h. refused_for_ever f.0 h.0 f.1 f.3 h.1 f.6 f.7 (subst (λ (ls : List NumLine). AreUnits h.1 ls) (append_assoc f.0 (f.1 ∷ []) h.0) h.2) in
+    (f.0, f.1, f.2, f.4, f.5, can_be_closed f.0 f.3 f.6, none)
 
 pub none_unclosed : NoneUnclosed
 none_unclosed lines r number units e some h =

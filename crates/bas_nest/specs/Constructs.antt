@@ -92,7 +92,7 @@ abbrev pub divides : Construct → Role → Option Construct
 divides c (role.Divides d) = divided_by c d
 divides c _ = None
 
--- the line that closes a construct behind a section; a WHEN EXCEPTION IN wants its USE
+-- the line that closes a construct after a section; WHEN EXCEPTION IN must have its USE
 abbrev pub closer_of : Construct → Option Closer
 closer_of section.If = Some closer.EndIf
 closer_of section.Else = Some closer.EndIf
@@ -124,7 +124,7 @@ closes c (role.Closes k) = same_closer (closer_of c) k
 closes c _ = false
 
 -- internal procedures stand at the top of a unit, handlers there or at the top of an internal
--- procedure, and nothing stands behind SELECT CASE
+-- procedure, and neither after SELECT CASE
 abbrev pub may_open : Around → Construct → Bool
 may_open stands.Unit c = true
 may_open stands.Select c = false
@@ -136,7 +136,7 @@ may_open stands.Block section.Function = false
 may_open stands.Block section.Handler = false
 may_open stands.Block _ = true
 
--- behind SELECT CASE no line stands
+-- no line is allowed after SELECT CASE
 abbrev pub is_select : Around → Bool
 is_select stands.Select = true
 is_select _ = false

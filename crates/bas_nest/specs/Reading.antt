@@ -128,9 +128,13 @@ ends_body units (OfMember part initial procs head) body line = ends_member units
 abbrev pub opened_construct : Owner → List Stmt → List Level → Construct → NumLine → Open
 opened_construct owner stmts levels c line = Within owner stmts (record { construct = c; sections = []; head = line; stmts = [] } ∷ levels)
 
+-- a construct with another section, which a line begins
+abbrev pub next_section : Level → Construct → NumLine → Level
+next_section level c line = record { construct = c; sections = all_sections level; head = line; stmts = [] }
+
 -- a construct goes on with a section that begins with a line
 abbrev pub divided_construct : Owner → List Stmt → Level → List Level → Construct → NumLine → Open
-divided_construct owner stmts level levels c line = Within owner stmts (record { construct = c; sections = all_sections level; head = line; stmts = [] } ∷ levels)
+divided_construct owner stmts level levels c line = Within owner stmts (next_section level c line ∷ levels)
 
 -- a construct ends with a line
 abbrev pub closed_construct : Owner → List Stmt → Level → List Level → NumLine → Open

@@ -7,6 +7,7 @@ use Rattle.bas_nest.specs.Reading as r
 use Rattle.bas_nest.specs.declared.state.Level.{Level}
 use Rattle.bas_nest.specs.declared.state.Owner.{Owner}
 use Rattle.bas_nest.specs.declared.state.Owner.TheVariants as owner
+use Rattle.bas_nest.specs.declared.state.Body.{Body}
 use Rattle.bas_nest.specs.declared.state.Open.{Open}
 use Rattle.bas_nest.specs.declared.state.Open.TheVariants as opened
 use Rattle.bas_nest.specs.declared.state.Reading.{Reading}
@@ -20,9 +21,12 @@ owner_tree (owner.Procedure head) = r.OfProcedure (line_tree head)
 owner_tree (owner.Initial head) = r.OfInitial (line_tree head)
 owner_tree (owner.Member part initial procs head) = r.OfMember (line_tree part) (block_tree initial) (map procedure_tree procs) (line_tree head)
 
+abbrev pub body_tree : Body → r.Open
+body_tree x = r.Within (owner_tree x.owner) (map stmt_tree x.stmts) (map level_tree x.levels)
+
 abbrev pub open_tree : Open → r.Open
 open_tree (opened.Outside waiting) = r.Outside (map line_tree waiting)
-open_tree (opened.Within owner stmts levels) = r.Within (owner_tree owner) (map stmt_tree stmts) (map level_tree levels)
+open_tree (opened.Within body) = body_tree body
 open_tree (opened.Between part initial procs) = r.Between (line_tree part) (block_tree initial) (map procedure_tree procs)
 
 abbrev pub reading_tree : Reading → r.Reading

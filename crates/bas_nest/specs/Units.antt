@@ -17,7 +17,7 @@ abbrev pub AreRemarks : List NumLine → Type 0
 AreRemarks [] = Unit {0}
 AreRemarks (line ∷ lines) = IsRemark line × AreRemarks lines
 
--- behind SELECT CASE only remarks stand, and no body has them
+-- only remarks may follow SELECT CASE, and they are in no body
 abbrev pub BodyIn : Around → (lines_are : Type 0) → Block → List NumLine → Type 0
 BodyIn stands.Select lines_are body lines = (body ≡ NoStmts) × AreRemarks lines
 BodyIn stands.Unit lines_are body lines = lines_are
@@ -34,7 +34,7 @@ abbrev mutual
       (c : Construct) × (own behind : List NumLine) × (opens (role_of head.item) ≡ Some c) × (may_open around c ≡ true) × (depth < OPEN_BLOCKS)
       × BodyIn (inside c) (IsBlock (suc depth) (inside c) body own) body own × AreSections depth c rest close behind × (lines ≡ head ∷ (own ++ behind))
 
-  -- the sections of a construct behind one of them, and the line that closes it
+  -- the sections of a construct after one of them, and the line that closes it
   pub AreSections : (depth : ℕ) → Construct → Sections → (close : NumLine) → List NumLine → Type 0
   AreSections depth c NoSections close lines = (closes c (role_of close.item) ≡ true) × (lines ≡ close ∷ [])
   AreSections depth c (MoreSections head body rest) close lines =
@@ -51,7 +51,7 @@ abbrev mutual
 abbrev pub main_name : List ℕ
 main_name = codes "MAIN"
 
--- the lines in front of a program's body
+-- the lines before a program's body
 abbrev pub IsHead : List ℕ → Option NumLine → List NumLine → Type 0
 IsHead name None lines = (name ≡ main_name) × (lines ≡ [])
 IsHead name (Some line) lines = (role_of line.item ≡ role.BeginsProgram) × (program_name line.item ≡ Some name) × (lines ≡ line ∷ [])
@@ -66,7 +66,7 @@ abbrev pub IsProcedure : Procedure → List NumLine → Type 0
 IsProcedure p lines =
     (own : List NumLine) × IsBlock 0 stands.Unit p.body own × (closes_procedure (role_of p.head.item) (role_of p.close.item) ≡ true) × (lines ≡ p.head ∷ (own ++ p.close ∷ []))
 
--- the procedures of a module; the remarks behind each belong to no body
+-- the procedures of a module; the remarks after each belong to no body
 abbrev pub AreProcedures : List Procedure → List NumLine → Type 0
 AreProcedures [] lines = lines ≡ []
 AreProcedures (p ∷ ps) lines =

@@ -1,12 +1,12 @@
 //! A line of an open body.
 
-ghost use Rattle.std.specs.Prelude.{◌≡◌, IfOk, map};
+ghost use Rattle.std.specs.Prelude.{◌≡◌, Some, IfOk, OnOk, map};
 ghost use Rattle.std.specs.Option.{option_map};
 ghost use Rattle.bas_ast.specs.BlockTree.{block_tree, item_tree, line_tree, section_tree, stmt_tree};
 ghost use Rattle.bas_nest.specs.Constructs as constructs;
 ghost use Rattle.bas_ast.specs.UnitTree.{unit_tree};
 ghost use Rattle.bas_nest.specs.Reading as reading;
-ghost use Rattle.bas_nest.specs.States.{level_tree, open_tree, owner_tree, reading_tree};
+ghost use Rattle.bas_nest.specs.States.{body_tree, level_tree, owner_tree, reading_tree};
 
 use crate::OPEN_BLOCKS;
 use crate::construct::{
@@ -14,7 +14,7 @@ use crate::construct::{
 };
 use crate::ending::ends_body;
 use crate::stack::Stack;
-use crate::state::{Level, Open, Owner, Reading};
+use crate::state::{Body, Level, Open, Owner, Reading};
 use bas_ast::{Block, NumLine, Section, Stmt, Unit};
 use bas_base::Seq;
 use sqlite_items::Items;
@@ -59,25 +59,16 @@ fn level_with(level: Level, stmt: Stmt) -> Result<Level, AllocError>
 
 // The statement at the end of the innermost open list of statements.
 #[tactic(auto, using(crate::proofs::Trees::stmts_more))]
-fn with_stmt(
-    owner: Owner,
-    stmts: Items<Stmt>,
-    levels: Stack<Level>,
-    stmt: Stmt,
-) -> Result<Open, AllocError>
-    ensures { IfOk result (λ o. open_tree o ≡ reading.with_stmt (owner_tree owner) (map stmt_tree stmts) (map level_tree levels) (stmt_tree stmt)) }
+fn add_stmt(body: &mut Body, stmt: Stmt) -> Result<(), AllocError>
+    ensures { OnOk result (body_tree body.new ≡ reading.with_stmt (owner_tree body.old.owner) (map stmt_tree body.old.stmts) (map level_tree body.old.levels) (stmt_tree stmt)) }
 {
-    let mut stmts = stmts;
-    let mut levels = levels;
-    match levels.pop() {
-        None => stmts.push(stmt)?,
-        Some(level) => levels.push(level_with(level, stmt)?)?,
+    match body.levels.pop() {
+        None => body.stmts.push(stmt),
+        Some(level) => {
+            let level = level_with(level, stmt)?;
+            body.levels.push(level)
+        }
     }
-    Ok(Open::Within {
-        owner,
-        stmts,
-        levels,
-    })
 }
 
 // Where the next line stands.
@@ -95,163 +86,141 @@ fn around(owner: &Owner, levels: &Stack<Level>) -> Around
 }
 
 // The construct begins with the line.
-fn opened(
+fn open(
     alloc: Global,
-    owner: Owner,
-    stmts: Items<Stmt>,
-    levels: Stack<Level>,
+    body: &mut Body,
     construct: Construct,
     line: NumLine,
-) -> Result<Open, AllocError>
-    ensures { IfOk result (λ o. open_tree o ≡ reading.opened_construct (owner_tree owner) (map stmt_tree stmts) (map level_tree levels) construct (line_tree line)) }
+) -> Result<(), AllocError>
+    ensures { OnOk result (body_tree body.new ≡ reading.opened_construct (owner_tree body.old.owner) (map stmt_tree body.old.stmts) (map level_tree body.old.levels) construct (line_tree line)) }
 {
-    let mut levels = levels;
-    levels.push(Level {
+    body.levels.push(Level {
         construct,
         sections: Items::new(alloc),
         head: line,
         stmts: Items::new(alloc),
-    })?;
-    Ok(Open::Within {
-        owner,
-        stmts,
-        levels,
     })
 }
 
-// The construct goes on with a section that begins with the line.
-fn divided(
+// The construct with another section, which the line begins.
+fn next_section(
     alloc: Global,
-    owner: Owner,
-    stmts: Items<Stmt>,
     level: Level,
-    levels: Stack<Level>,
     construct: Construct,
     line: NumLine,
-) -> Result<Open, AllocError>
-    ensures { IfOk result (λ o. open_tree o ≡ reading.divided_construct (owner_tree owner) (map stmt_tree stmts) (level_tree level) (map level_tree levels) construct (line_tree line)) }
+) -> Result<Level, AllocError>
+    ensures { IfOk result (λ l. level_tree l ≡ reading.next_section (level_tree level) construct (line_tree line)) }
 {
-    let mut levels = levels;
     let sections = all_sections(level)?;
-    levels.push(Level {
+    Ok(Level {
         construct,
         sections,
         head: line,
         stmts: Items::new(alloc),
-    })?;
-    Ok(Open::Within {
-        owner,
-        stmts,
-        levels,
     })
+}
+
+// The construct goes on with a section that begins with the line.
+fn divide(
+    alloc: Global,
+    body: &mut Body,
+    level: Level,
+    construct: Construct,
+    line: NumLine,
+) -> Result<(), AllocError>
+    ensures { OnOk result (body_tree body.new ≡ reading.divided_construct (owner_tree body.old.owner) (map stmt_tree body.old.stmts) (level_tree level) (map level_tree body.old.levels) construct (line_tree line)) }
+{
+    let level = next_section(alloc, level, construct, line)?;
+    body.levels.push(level)
 }
 
 // The construct ends with the line.
 #[tactic(auto, using(crate::proofs::Trees::nest_of_sections))]
-fn closed(
-    owner: Owner,
-    stmts: Items<Stmt>,
-    level: Level,
-    levels: Stack<Level>,
-    line: NumLine,
-) -> Result<Open, AllocError>
-    ensures { IfOk result (λ o. open_tree o ≡ reading.closed_construct (owner_tree owner) (map stmt_tree stmts) (level_tree level) (map level_tree levels) (line_tree line)) }
+fn close(body: &mut Body, level: Level, line: NumLine) -> Result<(), AllocError>
+    ensures { OnOk result (body_tree body.new ≡ reading.closed_construct (owner_tree body.old.owner) (map stmt_tree body.old.stmts) (level_tree level) (map level_tree body.old.levels) (line_tree line)) }
 {
     let sections = all_sections(level)?;
     let end = line;
-    with_stmt(owner, stmts, levels, Stmt::Nest { sections, end })
+    add_stmt(body, Stmt::Nest { sections, end })
 }
 
 // The line divides or closes the innermost construct.
-fn in_construct(
-    alloc: Global,
-    units: Seq<Unit>,
-    owner: Owner,
-    stmts: Items<Stmt>,
-    level: Level,
-    levels: Stack<Level>,
-    line: NumLine,
-) -> Read
-    ensures { IfOk result (λ r. option_map reading_tree r ≡ reading.in_construct (map unit_tree units) (owner_tree owner) (map stmt_tree stmts) (level_tree level) (map level_tree levels) (line_tree line) (constructs.divides level.construct (constructs.role_of (item_tree line.item)))) }
+fn in_construct(alloc: Global, units: Seq<Unit>, body: Body, level: Level, line: NumLine) -> Read
+    ensures { IfOk result (λ r. option_map reading_tree r ≡ reading.in_construct (map unit_tree units) (owner_tree body.owner) (map stmt_tree body.stmts) (level_tree level) (map level_tree body.levels) (line_tree line) (constructs.divides level.construct (constructs.role_of (item_tree line.item)))) }
 {
+    let mut body = body;
     let construct = level.construct;
     let role = role_of(&line.item);
-    let opened = if let Some(next) = divides(construct, role) {
-        divided(alloc, owner, stmts, level, levels, next, line)?
-    } else if closes(construct, role) {
-        closed(owner, stmts, level, levels, line)?
-    } else {
-        return Ok(None);
-    };
-    Ok(Some(Reading { units, opened }))
+    if let Some(next) = divides(construct, role) {
+        divide(alloc, &mut body, level, next, line)?;
+        let opened = Open::Within(body);
+        return Ok(Some(Reading { units, opened }));
+    }
+    if closes(construct, role) {
+        close(&mut body, level, line)?;
+        let opened = Open::Within(body);
+        return Ok(Some(Reading { units, opened }));
+    }
+    Ok(None)
 }
 
 // The line opens nothing and does not stand alone.
-fn turns(
-    alloc: Global,
-    units: Seq<Unit>,
-    owner: Owner,
-    stmts: Items<Stmt>,
-    levels: Stack<Level>,
-    line: NumLine,
-) -> Read
-    ensures { IfOk result (λ r. option_map reading_tree r ≡ reading.turns (map unit_tree units) (owner_tree owner) (map stmt_tree stmts) (map level_tree levels) (line_tree line)) }
+fn turns(alloc: Global, units: Seq<Unit>, body: Body, line: NumLine) -> Read
+    ensures { IfOk result (λ r. option_map reading_tree r ≡ reading.turns (map unit_tree units) (owner_tree body.owner) (map stmt_tree body.stmts) (map level_tree body.levels) (line_tree line)) }
 {
-    let mut levels = levels;
-    match levels.pop() {
-        Some(level) => in_construct(alloc, units, owner, stmts, level, levels, line),
-        None => ends_body(alloc, units, owner, block_of(stmts), line),
+    let mut body = body;
+    match body.levels.pop() {
+        Some(level) => in_construct(alloc, units, body, level, line),
+        None => ends_body(alloc, units, body.owner, block_of(body.stmts), line),
     }
 }
 
-// The line opens a construct, or it turns one or the body.
-fn nests(
+// The line opens a construct.
+fn opens_construct(
     alloc: Global,
     units: Seq<Unit>,
-    owner: Owner,
-    stmts: Items<Stmt>,
-    levels: Stack<Level>,
+    body: Body,
+    construct: Construct,
     line: NumLine,
 ) -> Read
-    ensures { IfOk result (λ r. option_map reading_tree r ≡ reading.nests (map unit_tree units) (owner_tree owner) (map stmt_tree stmts) (map level_tree levels) (line_tree line) (constructs.opens (constructs.role_of (item_tree line.item)))) }
+    ensures { IfOk result (λ r. option_map reading_tree r ≡ reading.nests (map unit_tree units) (owner_tree body.owner) (map stmt_tree body.stmts) (map level_tree body.levels) (line_tree line) (Some construct)) }
+{
+    let mut body = body;
+    let place = around(&body.owner, &body.levels);
+    if !may_open(place, construct) || body.levels.len() >= OPEN_BLOCKS {
+        return Ok(None);
+    }
+    open(alloc, &mut body, construct, line)?;
+    let opened = Open::Within(body);
+    Ok(Some(Reading { units, opened }))
+}
+
+// The line opens a construct, or it turns one or the body.
+fn nests(alloc: Global, units: Seq<Unit>, body: Body, line: NumLine) -> Read
+    ensures { IfOk result (λ r. option_map reading_tree r ≡ reading.nests (map unit_tree units) (owner_tree body.owner) (map stmt_tree body.stmts) (map level_tree body.levels) (line_tree line) (constructs.opens (constructs.role_of (item_tree line.item)))) }
 {
     match opens(role_of(&line.item)) {
-        None => turns(alloc, units, owner, stmts, levels, line),
-        Some(construct) => {
-            if !may_open(around(&owner, &levels), construct) || levels.len() >= OPEN_BLOCKS {
-                return Ok(None);
-            }
-            let opened = opened(alloc, owner, stmts, levels, construct, line)?;
-            Ok(Some(Reading { units, opened }))
-        }
+        None => turns(alloc, units, body, line),
+        Some(construct) => opens_construct(alloc, units, body, construct, line),
     }
 }
 
 /// The line in an open body: what is read behind it, or `None` where no nesting takes it.
 #[tactic(auto, using(bas_ast::proofs::BlockTrees::stmt_single))]
-pub fn in_body(
-    alloc: Global,
-    units: Seq<Unit>,
-    owner: Owner,
-    stmts: Items<Stmt>,
-    levels: Stack<Level>,
-    line: NumLine,
-) -> Read
-    ensures { IfOk result (λ r. option_map reading_tree r ≡ reading.in_body (map unit_tree units) (owner_tree owner) (map stmt_tree stmts) (map level_tree levels) (line_tree line)) }
+pub fn in_body(alloc: Global, units: Seq<Unit>, body: Body, line: NumLine) -> Read
+    ensures { IfOk result (λ r. option_map reading_tree r ≡ reading.in_body (map unit_tree units) (owner_tree body.owner) (map stmt_tree body.stmts) (map level_tree body.levels) (line_tree line)) }
 {
-    let place = around(&owner, &levels);
+    let mut body = body;
+    let place = around(&body.owner, &body.levels);
     let role = role_of(&line.item);
     if is_left_out(place, role) {
-        let opened = Open::Within {
-            owner,
-            stmts,
-            levels,
-        };
+        let opened = Open::Within(body);
         return Ok(Some(Reading { units, opened }));
     }
     if may_stand(place, role) {
-        let opened = with_stmt(owner, stmts, levels, Stmt::Single(line))?;
+        add_stmt(&mut body, Stmt::Single(line))?;
+        let opened = Open::Within(body);
         return Ok(Some(Reading { units, opened }));
     }
-    nests(alloc, units, owner, stmts, levels, line)
+    nests(alloc, units, body, line)
 }

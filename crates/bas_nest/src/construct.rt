@@ -10,7 +10,7 @@ use bas_ast::{LineItem, Part};
 use bas_base::Name;
 
 /// An open section of a construct, by the line that it begins with.
-#[derive(Clone, Copy, Debug, PartialEq, Eq)]
+#[derive(Clone, Copy)]
 pub enum Construct {
     /// Behind `IF` or `ELSEIF`.
     If,
@@ -33,7 +33,7 @@ pub enum Construct {
 }
 
 /// Where a line stands.
-#[derive(Clone, Copy, Debug, PartialEq, Eq)]
+#[derive(Clone, Copy)]
 pub enum Around {
     /// At the top of a program or an external procedure.
     Unit,
@@ -46,7 +46,7 @@ pub enum Around {
 }
 
 /// A line that begins another section of a construct.
-#[derive(Clone, Copy, Debug, PartialEq, Eq)]
+#[derive(Clone, Copy)]
 pub enum Divider {
     Elseif,
     Else,
@@ -56,7 +56,7 @@ pub enum Divider {
 }
 
 /// A line that closes a construct. `EndSub` and `EndFunction` close external procedures too.
-#[derive(Clone, Copy, Debug, PartialEq, Eq)]
+#[derive(Clone, Copy)]
 pub enum Closer {
     EndIf,
     Next,
@@ -69,7 +69,7 @@ pub enum Closer {
 }
 
 /// What a line does in the nesting.
-#[derive(Clone, Copy, Debug, PartialEq, Eq)]
+#[derive(Clone, Copy)]
 pub enum Role {
     /// It is empty, or holds a remark alone.
     Remark,

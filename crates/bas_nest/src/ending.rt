@@ -10,7 +10,7 @@ ghost use Rattle.bas_nest.specs.States.{open_tree, owner_tree, reading_tree};
 
 use crate::construct::{Role, begins_procedure, closes_procedure, role_of};
 use crate::stack::Stack;
-use crate::state::{Open, Owner, Reading};
+use crate::state::{Body, Open, Owner, Reading};
 use bas_ast::{Block, Module, NumLine, Procedure, Program, Unit};
 use bas_base::{Name, Seq};
 use sqlite_items::Items;
@@ -43,7 +43,7 @@ fn member(
 ) -> Open
     ensures { open_tree result ≡ reading.member (line_tree part) (block_tree initial) (map procedure_tree procs) (line_tree head) }
 {
-    Open::Within {
+    Open::Within(Body {
         owner: Owner::Member {
             part,
             initial,
@@ -52,7 +52,7 @@ fn member(
         },
         stmts: Items::new(alloc),
         levels: Stack::new(alloc),
-    }
+    })
 }
 
 /// The line behind a procedure of a module, or behind its initial part.

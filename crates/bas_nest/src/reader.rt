@@ -13,7 +13,7 @@ use crate::body::in_body;
 use crate::construct::{Role, program_name, role_of};
 use crate::ending::in_module;
 use crate::stack::Stack;
-use crate::state::{Level, Open, Owner, Reading};
+use crate::state::{Body, Level, Open, Owner, Reading};
 use bas_ast::{Block, NumLine, Procedure, Stmt, Unit};
 use bas_base::{Line, Name, Seq};
 use sqlite_items::Items;
@@ -48,11 +48,11 @@ fn began(alloc: Global, units: Seq<Unit>, owner: Owner) -> Reading
 {
     Reading {
         units,
-        opened: Open::Within {
+        opened: Open::Within(Body {
             owner,
             stmts: Items::new(alloc),
             levels: Stack::new(alloc),
-        },
+        }),
     }
 }
 
@@ -71,13 +71,19 @@ fn begins_main(alloc: Global, units: Seq<Unit>, waiting: Seq<NumLine>, line: Num
     ensures { IfOk result (λ r. option_map reading_tree r ≡ reading.begins_main (map unit_tree units) (map line_tree waiting) (line_tree line)) }
 {
     let first = first_of_waiting(&waiting, &line);
+    let stmts = waited(alloc, waiting)?;
     let owner = Owner::Program {
         name: main_name(),
         head: None,
         first,
     };
-    let stmts = waited(alloc, waiting)?;
-    in_body(alloc, units, owner, stmts, Stack::new(alloc), line)
+    let levels = Stack::new(alloc);
+    let body = Body {
+        owner,
+        stmts,
+        levels,
+    };
+    in_body(alloc, units, body, line)
 }
 
 // A PROGRAM line.
@@ -156,18 +162,16 @@ fn between(
     Ok(Some(Reading { units, opened }))
 }
 
-/// What is read behind one more line, or `None` where no nesting takes it. It takes constant time.
+/// What is read after one more line, or `None` where no nesting takes it. A line is stored in constant time
+/// on average; the first of a program without `PROGRAM` takes the remarks that wait with it, and `None`
+/// drops what was read.
 pub fn line_read(alloc: Global, before: Reading, line: NumLine) -> Read
     ensures { IfOk result (λ r. option_map reading_tree r ≡ reading.line_read (reading_tree before) (line_tree line)) }
 {
     let Reading { units, opened } = before;
     match opened {
         Open::Outside { waiting } => outside(alloc, units, waiting, line),
-        Open::Within {
-            owner,
-            stmts,
-            levels,
-        } => in_body(alloc, units, owner, stmts, levels, line),
+        Open::Within(body) => in_body(alloc, units, body, line),
         Open::Between {
             part,
             initial,
@@ -215,9 +219,9 @@ pub fn unclosed(opened: &Open) -> Option<Line>
     match opened {
         Open::Outside { .. } => None,
         Open::Between { part, .. } => Some(part.line),
-        Open::Within { owner, levels, .. } => match levels.top() {
+        Open::Within(body) => match body.levels.top() {
             Some(level) => Some(opener(level)),
-            None => Some(first_line(owner)),
+            None => Some(first_line(&body.owner)),
         },
     }
 }

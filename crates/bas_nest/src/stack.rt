@@ -5,7 +5,7 @@ use std::alloc::{AllocError, Global};
 use std::collections::VecDeque;
 use std::marker::Model;
 
-/// What is open, the innermost first. Each call takes constant time.
+/// What is open, the innermost first. Each call takes constant time, `push` on average.
 #[derive(Drop)]
 pub struct Stack<T> {
     items: VecDeque<T>,

@@ -45,6 +45,16 @@ pub enum Owner {
     },
 }
 
+/// An open body.
+#[derive(Drop)]
+pub struct Body {
+    pub owner: Owner,
+    /// Its top statements so far.
+    pub stmts: Items<Stmt>,
+    /// The open constructs.
+    pub levels: Stack<Level>,
+}
+
 /// What is open.
 #[derive(Drop)]
 pub enum Open {
@@ -52,12 +62,7 @@ pub enum Open {
     Outside {
         waiting: Seq<NumLine>,
     },
-    /// A body: its top statements so far, and the open constructs.
-    Within {
-        owner: Owner,
-        stmts: Items<Stmt>,
-        levels: Stack<Level>,
-    },
+    Within(Body),
     /// A module, behind one of its procedures.
     Between {
         part: NumLine,

@@ -16,7 +16,7 @@ use Rattle.bas_expr.specs.Lexemes.{Lexeme}
 use Rattle.bas_expr.specs.Marks.{at_mark, colon}
 use Rattle.bas_expr.specs.Separated.{Behind}
 use Rattle.bas_expr.specs.Reading.{GoesExpr}
-use Rattle.bas_declaration.specs.declared.TheConstants.{LEVELS}
+use Rattle.bas_expr.specs.declared.TheConstants.{LEVELS}
 use Rattle.bas_declaration.specs.Keywords.{spells}
 use Rattle.bas_declaration.proofs.WordLaws.{spells_inside}
 use Rattle.bas_list.specs.Lists.{IsValues, IsTargets}

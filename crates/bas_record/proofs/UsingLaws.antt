@@ -15,7 +15,7 @@ use Rattle.bas_expr.specs.Marks.{at_mark, comma, colon, hash}
 use Rattle.bas_expr.specs.Separated.{Behind, behind}
 use Rattle.bas_expr.specs.Reading.{GoesExpr}
 use Rattle.bas_expr.proofs.MarkLaws.{mark_inside, stops, at_comma}
-use Rattle.bas_declaration.specs.declared.TheConstants.{LEVELS}
+use Rattle.bas_expr.specs.declared.TheConstants.{LEVELS}
 use Rattle.bas_declaration.specs.Keywords.{spells}
 use Rattle.bas_declaration.specs.Parts.{E}
 use Rattle.bas_declaration.proofs.WordLaws.{spells_inside}

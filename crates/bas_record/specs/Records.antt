@@ -19,7 +19,7 @@ use Rattle.bas_ast.specs.declared.statement.Plain.TheVariants as plain
 use Rattle.bas_expr.specs.Lexemes.{Lexeme}
 use Rattle.bas_expr.specs.Marks.{at_mark, comma, colon}
 use Rattle.bas_expr.specs.Separated.{Behind}
-use Rattle.bas_declaration.specs.declared.TheConstants.{LEVELS}
+use Rattle.bas_expr.specs.declared.TheConstants.{LEVELS}
 use Rattle.bas_declaration.specs.Keywords.{spells}
 use Rattle.bas_declaration.specs.Parts.{E}
 use Rattle.bas_list.specs.Words.{separator_of, line_number, Ends}

@@ -7,18 +7,16 @@ ghost use Rattle.bas_record.specs.Reading as reading;
 use crate::word::{AttrWord, access, attr_word, create, organization, rectype};
 use bas_ast::{Attr, Expr};
 use bas_base::Seq;
-use bas_declaration::LEVELS;
 use bas_declaration::digits::digits;
 use bas_declaration::keyword::spells;
-use bas_expr::expression::expr;
-use bas_expr::source::Source;
+use bas_expr::{LEVELS, TokenLine, longest_expr};
 use std::alloc::{AllocError, Global};
 
 type Read<T> = Result<Option<(T, usize)>, AllocError>;
 
 /// The word of an attribute and its value.
 #[tactic(auto, unfolding(crate::specs::Reading::one_attr, bas_form::specs::Reader::dispatched, bas_form::specs::Reader::built, bas_form::specs::Reader::both, bas_form::specs::Reader::terminal))]
-fn attribute(line: &Source<'_>, at: usize) -> Option<(Attr, usize)>
+fn attribute(line: &TokenLine<'_>, at: usize) -> Option<(Attr, usize)>
     ensures { result ≡ reading.one_attr line.now at }
 {
     let lead = attr_word(line, at)?;
@@ -35,7 +33,7 @@ fn attribute(line: &Source<'_>, at: usize) -> Option<(Attr, usize)>
 
 /// `"," attr`
 #[tactic(auto, unfolding(bas_form::specs::Reader::built, bas_form::specs::Reader::both, bas_form::specs::Reader::terminal))]
-fn next_attribute(line: &Source<'_>, at: usize) -> Option<(Attr, usize)>
+fn next_attribute(line: &TokenLine<'_>, at: usize) -> Option<(Attr, usize)>
     ensures { result ≡ reading.next_attr line.now at }
 {
     let Some(()) = line.comma(at) else {
@@ -50,7 +48,7 @@ fn next_attribute(line: &Source<'_>, at: usize) -> Option<(Attr, usize)>
 /// `{ "," attr }`
 fn more_attributes(
     alloc: Global,
-    line: &Source<'_>,
+    line: &TokenLine<'_>,
     mut at: usize,
 ) -> Result<(Vec<Attr>, usize), AllocError>
     ensures { IfOk result (λ r. (r.0.items, r.1) ≡ all_from (reading.next_attr line.now) (length line.now) at) }
@@ -65,13 +63,13 @@ fn more_attributes(
 
 /// `"NAME" expr { "," attr }`
 #[tactic(auto, unfolding(crate::specs::Reading::named, bas_form::specs::Reader::built, bas_form::specs::Reader::both, bas_form::specs::Reader::terminal, bas_form::specs::Reader::repeated))]
-pub fn named(alloc: Global, line: &Source<'_>, at: usize) -> Read<(Expr, Seq<Attr>)>
+pub fn named(alloc: Global, line: &TokenLine<'_>, at: usize) -> Read<(Expr, Seq<Attr>)>
     ensures { IfOk result (λ o. o ≡ reading.named line.now at) }
 {
     let Some(()) = spells(line, at, b"NAME") else {
         return Ok(None);
     };
-    let Some((name, after)) = expr(alloc, line, at + 1, LEVELS)? else {
+    let Some((name, after)) = longest_expr(alloc, line, at + 1, LEVELS)? else {
         return Ok(None);
     };
     let (all, end) = more_attributes(alloc, line, after)?;

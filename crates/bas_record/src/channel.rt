@@ -6,22 +6,20 @@ ghost use Rattle.bas_record.specs.Reading as reading;
 
 use crate::word::{KeyRelation, SetterWord, key_relation, setter_word};
 use bas_ast::{Chan, Expr, Setter};
-use bas_declaration::LEVELS;
-use bas_expr::expression::expr;
-use bas_expr::source::Source;
+use bas_expr::{LEVELS, TokenLine, longest_expr};
 use std::alloc::{AllocError, Global};
 
 type Read<T> = Result<Option<(T, usize)>, AllocError>;
 
 /// `"#" expr`
 #[tactic(auto, unfolding(crate::specs::Reading::chan, bas_form::specs::Reader::built, bas_form::specs::Reader::both, bas_form::specs::Reader::terminal))]
-pub fn channel(alloc: Global, line: &Source<'_>, at: usize) -> Read<Chan>
+pub fn channel(alloc: Global, line: &TokenLine<'_>, at: usize) -> Read<Chan>
     ensures { IfOk result (λ o. o ≡ reading.chan line.now at) }
 {
     let Some(()) = line.hash(at) else {
         return Ok(None);
     };
-    let Some((number, after)) = expr(alloc, line, at + 1, LEVELS)? else {
+    let Some((number, after)) = longest_expr(alloc, line, at + 1, LEVELS)? else {
         return Ok(None);
     };
     Ok(Some((Chan { number }, after)))
@@ -29,13 +27,13 @@ pub fn channel(alloc: Global, line: &Source<'_>, at: usize) -> Read<Chan>
 
 /// `"RECORD" expr`
 #[tactic(auto, unfolding(crate::specs::Reading::record_setter, bas_form::specs::Reader::built, bas_form::specs::Reader::both, bas_form::specs::Reader::terminal))]
-fn record_setter(alloc: Global, line: &Source<'_>, at: usize) -> Read<Setter>
+fn record_setter(alloc: Global, line: &TokenLine<'_>, at: usize) -> Read<Setter>
     ensures { IfOk result (λ o. o ≡ reading.record_setter line.now at) }
 {
     let Some(_) = setter_word(line, at) else {
         return Ok(None);
     };
-    let Some((number, after)) = expr(alloc, line, at + 1, LEVELS)? else {
+    let Some((number, after)) = longest_expr(alloc, line, at + 1, LEVELS)? else {
         return Ok(None);
     };
     Ok(Some((Setter::Record(number), after)))
@@ -53,7 +51,7 @@ fn keyed(relation: KeyRelation, key: Expr) -> Setter
 
 /// `"KEY" ( "=" | ">=" | ">" ) expr`
 #[tactic(auto, unfolding(crate::specs::Reading::key_setter, bas_form::specs::Reader::built, bas_form::specs::Reader::both, bas_form::specs::Reader::terminal))]
-fn key_setter(alloc: Global, line: &Source<'_>, at: usize) -> Read<Setter>
+fn key_setter(alloc: Global, line: &TokenLine<'_>, at: usize) -> Read<Setter>
     ensures { IfOk result (λ o. o ≡ reading.key_setter line.now at) }
 {
     let Some(_) = setter_word(line, at) else {
@@ -63,7 +61,7 @@ fn key_setter(alloc: Global, line: &Source<'_>, at: usize) -> Read<Setter>
     let Some(relation) = key_relation(line, at) else {
         return Ok(None);
     };
-    let Some((key, after)) = expr(alloc, line, at + 1, LEVELS)? else {
+    let Some((key, after)) = longest_expr(alloc, line, at + 1, LEVELS)? else {
         return Ok(None);
     };
     Ok(Some((keyed(relation, key), after)))
@@ -71,7 +69,7 @@ fn key_setter(alloc: Global, line: &Source<'_>, at: usize) -> Read<Setter>
 
 /// `"BEGIN" | "END" | "NEXT" | "SAME" | "RECORD" expr | "KEY" ( "=" | ">=" | ">" ) expr`
 #[tactic(auto, unfolding(crate::specs::Reading::one_setter, bas_form::specs::Reader::dispatched, bas_form::specs::Reader::built, bas_form::specs::Reader::terminal))]
-pub fn setter(alloc: Global, line: &Source<'_>, at: usize) -> Read<Setter>
+pub fn setter(alloc: Global, line: &TokenLine<'_>, at: usize) -> Read<Setter>
     ensures { IfOk result (λ o. o ≡ reading.one_setter line.now at) }
 {
     match setter_word(line, at) {

@@ -11,8 +11,6 @@ mod law;
 mod miss;
 mod print;
 mod statement;
-#[cfg(test)]
-mod tests;
 mod word;
 
 pub use law::record_statement_law;

@@ -7,7 +7,7 @@ use crate::channel::{channel, setter};
 use crate::word::{exit, miss_when};
 use bas_ast::{Chan, Miss, MissThen, Setter};
 use bas_declaration::keyword::spells;
-use bas_expr::source::Source;
+use bas_expr::TokenLine;
 use bas_list::word::line_number;
 use std::alloc::{AllocError, Global};
 
@@ -15,7 +15,7 @@ type Read<T> = Result<Option<(T, usize)>, AllocError>;
 
 /// `"EXIT" ( "DO" | "FOR" )`
 #[tactic(auto, unfolding(crate::specs::Recording::exit_loop, bas_form::specs::Reader::built, bas_form::specs::Reader::both, bas_form::specs::Reader::terminal))]
-fn exit_loop(line: &Source<'_>, at: usize) -> Option<(MissThen, usize)>
+fn exit_loop(line: &TokenLine<'_>, at: usize) -> Option<(MissThen, usize)>
     ensures { result ≡ reading.exit_loop line.now at }
 {
     let Some(()) = spells(line, at, b"EXIT") else {
@@ -30,7 +30,7 @@ fn exit_loop(line: &Source<'_>, at: usize) -> Option<(MissThen, usize)>
 
 /// `"EXIT" "DO" | "EXIT" "FOR" | number`
 #[tactic(auto, unfolding(crate::specs::Recording::miss_then, bas_form::specs::Reader::either, bas_form::specs::Reader::built, bas_form::specs::Reader::terminal))]
-fn miss_then(line: &Source<'_>, at: usize) -> Option<(MissThen, usize)>
+fn miss_then(line: &TokenLine<'_>, at: usize) -> Option<(MissThen, usize)>
     ensures { result ≡ reading.miss_then line.now at }
 {
     if let Some(found) = exit_loop(line, at) {
@@ -44,7 +44,7 @@ fn miss_then(line: &Source<'_>, at: usize) -> Option<(MissThen, usize)>
 
 /// `"THEN" ( "EXIT" "DO" | "EXIT" "FOR" | number )`
 #[tactic(auto, unfolding(crate::specs::Recording::then_part, bas_form::specs::Reader::built, bas_form::specs::Reader::both, bas_form::specs::Reader::terminal))]
-fn then_part(line: &Source<'_>, at: usize) -> Option<(MissThen, usize)>
+fn then_part(line: &TokenLine<'_>, at: usize) -> Option<(MissThen, usize)>
     ensures { result ≡ reading.then_part line.now at }
 {
     let Some(()) = spells(line, at, b"THEN") else {
@@ -58,7 +58,7 @@ fn then_part(line: &Source<'_>, at: usize) -> Option<(MissThen, usize)>
 
 /// `"IF" ( "MISSING" | "THERE" ) "THEN" ( "EXIT" "DO" | "EXIT" "FOR" | number )`
 #[tactic(auto, unfolding(crate::specs::Recording::miss, bas_form::specs::Reader::built, bas_form::specs::Reader::both, bas_form::specs::Reader::terminal))]
-fn miss_part(line: &Source<'_>, at: usize) -> Option<(Miss, usize)>
+fn miss_part(line: &TokenLine<'_>, at: usize) -> Option<(Miss, usize)>
     ensures { result ≡ reading.miss line.now at }
 {
     let Some(()) = spells(line, at, b"IF") else {
@@ -76,7 +76,7 @@ fn miss_part(line: &Source<'_>, at: usize) -> Option<(Miss, usize)>
 
 /// `"," miss`
 #[tactic(auto, unfolding(crate::specs::Recording::next_miss, bas_form::specs::Reader::built, bas_form::specs::Reader::both, bas_form::specs::Reader::terminal))]
-fn next_miss(line: &Source<'_>, at: usize) -> Option<(Miss, usize)>
+fn next_miss(line: &TokenLine<'_>, at: usize) -> Option<(Miss, usize)>
     ensures { result ≡ reading.next_miss line.now at }
 {
     let Some(()) = line.comma(at) else {
@@ -90,7 +90,7 @@ fn next_miss(line: &Source<'_>, at: usize) -> Option<(Miss, usize)>
 
 /// `"," setter`
 #[tactic(auto, unfolding(crate::specs::Recording::next_setter, bas_form::specs::Reader::built, bas_form::specs::Reader::both, bas_form::specs::Reader::terminal))]
-fn next_setter(alloc: Global, line: &Source<'_>, at: usize) -> Read<Setter>
+fn next_setter(alloc: Global, line: &TokenLine<'_>, at: usize) -> Read<Setter>
     ensures { IfOk result (λ o. o ≡ reading.next_setter line.now at) }
 {
     let Some(()) = line.comma(at) else {
@@ -104,7 +104,7 @@ fn next_setter(alloc: Global, line: &Source<'_>, at: usize) -> Read<Setter>
 
 /// `chan [ "," setter ]`
 #[tactic(auto, unfolding(crate::specs::Recording::chan_and_setter, bas_form::specs::Reader::both, bas_form::specs::Reader::optional))]
-fn chan_and_setter(alloc: Global, line: &Source<'_>, at: usize) -> Read<(Chan, Option<Setter>)>
+fn chan_and_setter(alloc: Global, line: &TokenLine<'_>, at: usize) -> Read<(Chan, Option<Setter>)>
     ensures { IfOk result (λ o. o ≡ reading.chan_and_setter line.now at) }
 {
     let Some((chan, at)) = channel(alloc, line, at)? else {
@@ -120,7 +120,7 @@ fn chan_and_setter(alloc: Global, line: &Source<'_>, at: usize) -> Read<(Chan, O
 #[tactic(auto, unfolding(crate::specs::Recording::place, bas_form::specs::Reader::both, bas_form::specs::Reader::optional))]
 pub fn place(
     alloc: Global,
-    line: &Source<'_>,
+    line: &TokenLine<'_>,
     at: usize,
 ) -> Read<((Chan, Option<Setter>), Option<Miss>)>
     ensures { IfOk result (λ o. o ≡ reading.place line.now at) }
@@ -136,7 +136,7 @@ pub fn place(
 
 /// `chan [ "," miss ]`
 #[tactic(auto, unfolding(crate::specs::Recording::chan_and_miss, bas_form::specs::Reader::both, bas_form::specs::Reader::optional))]
-pub fn chan_and_miss(alloc: Global, line: &Source<'_>, at: usize) -> Read<(Chan, Option<Miss>)>
+pub fn chan_and_miss(alloc: Global, line: &TokenLine<'_>, at: usize) -> Read<(Chan, Option<Miss>)>
     ensures { IfOk result (λ o. o ≡ reading.chan_and_miss line.now at) }
 {
     let Some((chan, at)) = channel(alloc, line, at)? else {

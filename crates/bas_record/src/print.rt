@@ -9,10 +9,8 @@ use crate::channel::channel;
 use crate::word::verb_at;
 use bas_ast::{Chan, Expr, Plain, Plist, Sep};
 use bas_base::Seq;
-use bas_declaration::LEVELS;
 use bas_declaration::keyword::spells;
-use bas_expr::expression::expr;
-use bas_expr::source::Source;
+use bas_expr::{LEVELS, TokenLine, longest_expr};
 use bas_list::print_list;
 use bas_list::word::separator;
 use std::alloc::{AllocError, Global};
@@ -30,7 +28,7 @@ pub struct Formatted {
 
 /// `":" plist`
 #[tactic(auto, unfolding(crate::specs::Recording::colon_list, bas_form::specs::Reader::built, bas_form::specs::Reader::both, bas_form::specs::Reader::terminal))]
-fn colon_list(alloc: Global, line: &Source<'_>, at: usize) -> Read<Plist>
+fn colon_list(alloc: Global, line: &TokenLine<'_>, at: usize) -> Read<Plist>
     ensures { IfOk result (λ o. o ≡ reading.colon_list line.now at) }
 {
     let Some(()) = line.colon(at) else {
@@ -42,7 +40,7 @@ fn colon_list(alloc: Global, line: &Source<'_>, at: usize) -> Read<Plist>
 
 /// `"PRINT" chan [ ":" plist ]`
 #[tactic(auto, unfolding(crate::specs::Recording::print_chan, bas_form::specs::Reader::built, bas_form::specs::Reader::both, bas_form::specs::Reader::optional, bas_form::specs::Reader::terminal))]
-fn print_chan(alloc: Global, line: &Source<'_>, at: usize) -> Read<Plain>
+fn print_chan(alloc: Global, line: &TokenLine<'_>, at: usize) -> Read<Plain>
     ensures { IfOk result (λ o. o ≡ reading.print_chan line.now at) }
 {
     let Some(_) = verb_at(line, at) else {
@@ -59,7 +57,7 @@ fn print_chan(alloc: Global, line: &Source<'_>, at: usize) -> Read<Plain>
 
 /// `chan ","`
 #[tactic(auto, unfolding(crate::specs::Recording::chan_comma, bas_form::specs::Reader::built, bas_form::specs::Reader::both, bas_form::specs::Reader::terminal))]
-fn chan_comma(alloc: Global, line: &Source<'_>, at: usize) -> Read<Chan>
+fn chan_comma(alloc: Global, line: &TokenLine<'_>, at: usize) -> Read<Chan>
     ensures { IfOk result (λ o. o ≡ reading.chan_comma line.now at) }
 {
     let Some((chan, after)) = channel(alloc, line, at)? else {
@@ -75,7 +73,7 @@ fn chan_comma(alloc: Global, line: &Source<'_>, at: usize) -> Read<Chan>
 #[tactic(auto, unfolding(bas_form::specs::Reader::optional))]
 fn perhaps_chan(
     alloc: Global,
-    line: &Source<'_>,
+    line: &TokenLine<'_>,
     at: usize,
 ) -> Result<(Option<Chan>, usize), AllocError>
     ensures { IfOk result (λ r. Some r ≡ optional (reading.chan_comma line.now) at) }
@@ -87,7 +85,7 @@ fn perhaps_chan(
 }
 
 /// The `;` at a place.
-fn semicolon(line: &Source<'_>, at: usize) -> Option<()>
+fn semicolon(line: &TokenLine<'_>, at: usize) -> Option<()>
     ensures value { result ≡ grammar.semicolon line.now at }
     ensures within { IfSome result (λ _. at < 4096) }
 {
@@ -99,13 +97,13 @@ fn semicolon(line: &Source<'_>, at: usize) -> Option<()>
 
 /// `sep expr`
 #[tactic(auto, unfolding(crate::specs::Recording::next_formatted, bas_form::specs::Reader::both, bas_form::specs::Reader::terminal))]
-fn next_formatted(alloc: Global, line: &Source<'_>, at: usize) -> Read<(Sep, Expr)>
+fn next_formatted(alloc: Global, line: &TokenLine<'_>, at: usize) -> Read<(Sep, Expr)>
     ensures { IfOk result (λ o. o ≡ reading.next_formatted line.now at) }
 {
     let Some(sep) = separator(line, at) else {
         return Ok(None);
     };
-    let Some((value, after)) = expr(alloc, line, at + 1, LEVELS)? else {
+    let Some((value, after)) = longest_expr(alloc, line, at + 1, LEVELS)? else {
         return Ok(None);
     };
     Ok(Some(((sep, value), after)))
@@ -114,7 +112,7 @@ fn next_formatted(alloc: Global, line: &Source<'_>, at: usize) -> Read<(Sep, Exp
 /// `{ sep expr }`
 fn more_formatted(
     alloc: Global,
-    line: &Source<'_>,
+    line: &TokenLine<'_>,
     mut at: usize,
 ) -> Result<(Vec<(Sep, Expr)>, usize), AllocError>
     ensures { IfOk result (λ r. (r.0.items, r.1) ≡ all_from (reading.next_formatted line.now) (length line.now) at) }
@@ -129,10 +127,10 @@ fn more_formatted(
 
 /// `expr { sep expr } [ ";" ]`
 #[tactic(auto, unfolding(crate::specs::Recording::formatted, crate::specs::Recording::rest_formatted, bas_form::specs::Reader::built, bas_form::specs::Reader::both, bas_form::specs::Reader::repeated, bas_form::specs::Reader::optional, bas_form::specs::Reader::terminal))]
-fn formatted_part(alloc: Global, line: &Source<'_>, at: usize) -> Read<Formatted>
+fn formatted_part(alloc: Global, line: &TokenLine<'_>, at: usize) -> Read<Formatted>
     ensures { IfOk result (λ o. o ≡ reading.formatted line.now at) }
 {
-    let Some((first, after)) = expr(alloc, line, at, LEVELS)? else {
+    let Some((first, after)) = longest_expr(alloc, line, at, LEVELS)? else {
         return Ok(None);
     };
     let (all, end) = more_formatted(alloc, line, after)?;
@@ -165,13 +163,13 @@ fn formatted_part(alloc: Global, line: &Source<'_>, at: usize) -> Read<Formatted
 
 /// `"USING" expr ":" expr { sep expr } [ ";" ]`
 #[tactic(auto, unfolding(crate::specs::Recording::using_part, bas_form::specs::Reader::built, bas_form::specs::Reader::both, bas_form::specs::Reader::terminal))]
-fn using_part(alloc: Global, line: &Source<'_>, at: usize) -> Read<(Expr, Formatted)>
+fn using_part(alloc: Global, line: &TokenLine<'_>, at: usize) -> Read<(Expr, Formatted)>
     ensures { IfOk result (λ o. o ≡ reading.using_part line.now at) }
 {
     let Some(()) = spells(line, at, b"USING") else {
         return Ok(None);
     };
-    let Some((format, at)) = expr(alloc, line, at + 1, LEVELS)? else {
+    let Some((format, at)) = longest_expr(alloc, line, at + 1, LEVELS)? else {
         return Ok(None);
     };
     let Some(()) = line.colon(at) else {
@@ -197,7 +195,7 @@ fn using_statement(chan: Option<Chan>, format: Expr, formatted: Formatted) -> Pl
 
 /// `"PRINT" [ chan "," ] "USING" expr ":" expr { sep expr } [ ";" ]`
 #[tactic(auto, unfolding(crate::specs::Recording::print_using, bas_form::specs::Reader::built, bas_form::specs::Reader::both, bas_form::specs::Reader::terminal))]
-fn print_using(alloc: Global, line: &Source<'_>, at: usize) -> Read<Plain>
+fn print_using(alloc: Global, line: &TokenLine<'_>, at: usize) -> Read<Plain>
     ensures { IfOk result (λ o. o ≡ reading.print_using line.now at) }
 {
     let Some(_) = verb_at(line, at) else {
@@ -212,7 +210,7 @@ fn print_using(alloc: Global, line: &Source<'_>, at: usize) -> Read<Plain>
 
 /// `PRINT` on a channel, or with a format.
 #[tactic(auto, unfolding(crate::specs::Recording::print_line, bas_form::specs::Reader::either))]
-pub fn print_line(alloc: Global, line: &Source<'_>, at: usize) -> Read<Plain>
+pub fn print_line(alloc: Global, line: &TokenLine<'_>, at: usize) -> Read<Plain>
     ensures { IfOk result (λ o. o ≡ reading.print_line line.now at) }
 {
     match print_using(alloc, line, at)? {

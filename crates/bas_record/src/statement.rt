@@ -11,9 +11,8 @@ use crate::print::print_line;
 use crate::word::{Verb, verb_at};
 use bas_ast::{Chan, Expr, Miss, Plain, Setter, Targets};
 use bas_base::Seq;
-use bas_declaration::LEVELS;
 use bas_declaration::keyword::spells;
-use bas_expr::source::Source;
+use bas_expr::{LEVELS, TokenLine};
 use bas_list::{targets, values};
 use std::alloc::{AllocError, Global};
 
@@ -21,7 +20,7 @@ type Read<T> = Result<Option<(T, usize)>, AllocError>;
 
 /// `chan [ "," miss ] ":" targets`
 #[tactic(auto, unfolding(crate::specs::Recording::input, bas_form::specs::Reader::built, bas_form::specs::Reader::both, bas_form::specs::Reader::terminal))]
-fn input(alloc: Global, line: &Source<'_>, at: usize) -> Read<((Chan, Option<Miss>), Targets)>
+fn input(alloc: Global, line: &TokenLine<'_>, at: usize) -> Read<((Chan, Option<Miss>), Targets)>
     ensures { IfOk result (λ o. o ≡ reading.input line.now at) }
 {
     let Some((front, at)) = chan_and_miss(alloc, line, at)? else {
@@ -38,7 +37,7 @@ fn input(alloc: Global, line: &Source<'_>, at: usize) -> Read<((Chan, Option<Mis
 
 /// `"LINE" "INPUT" chan [ "," miss ] ":" targets`
 #[tactic(auto, unfolding(crate::specs::Recording::line_input, bas_form::specs::Reader::built, bas_form::specs::Reader::both, bas_form::specs::Reader::terminal))]
-fn line_input(alloc: Global, line: &Source<'_>, at: usize) -> Read<Plain>
+fn line_input(alloc: Global, line: &TokenLine<'_>, at: usize) -> Read<Plain>
     ensures { IfOk result (λ o. o ≡ reading.line_input line.now at) }
 {
     let Some(_) = verb_at(line, at) else {
@@ -56,7 +55,7 @@ fn line_input(alloc: Global, line: &Source<'_>, at: usize) -> Read<Plain>
 
 /// `"INPUT" chan [ "," miss ] ":" targets`
 #[tactic(auto, unfolding(crate::specs::Recording::input_line, bas_form::specs::Reader::built, bas_form::specs::Reader::both, bas_form::specs::Reader::terminal))]
-fn input_line(alloc: Global, line: &Source<'_>, at: usize) -> Read<Plain>
+fn input_line(alloc: Global, line: &TokenLine<'_>, at: usize) -> Read<Plain>
     ensures { IfOk result (λ o. o ≡ reading.input_line line.now at) }
 {
     let Some(_) = verb_at(line, at) else {
@@ -70,7 +69,7 @@ fn input_line(alloc: Global, line: &Source<'_>, at: usize) -> Read<Plain>
 
 /// `"OPEN" chan ":" "NAME" expr { "," attr }`
 #[tactic(auto, unfolding(crate::specs::Recording::open_line, bas_form::specs::Reader::built, bas_form::specs::Reader::both, bas_form::specs::Reader::terminal))]
-fn open_line(alloc: Global, line: &Source<'_>, at: usize) -> Read<Plain>
+fn open_line(alloc: Global, line: &TokenLine<'_>, at: usize) -> Read<Plain>
     ensures { IfOk result (λ o. o ≡ reading.open_line line.now at) }
 {
     let Some(_) = verb_at(line, at) else {
@@ -90,7 +89,7 @@ fn open_line(alloc: Global, line: &Source<'_>, at: usize) -> Read<Plain>
 
 /// `"CLOSE" chan`
 #[tactic(auto, unfolding(crate::specs::Recording::close_line, bas_form::specs::Reader::built, bas_form::specs::Reader::both, bas_form::specs::Reader::terminal))]
-fn close_line(alloc: Global, line: &Source<'_>, at: usize) -> Read<Plain>
+fn close_line(alloc: Global, line: &TokenLine<'_>, at: usize) -> Read<Plain>
     ensures { IfOk result (λ o. o ≡ reading.close_line line.now at) }
 {
     let Some(_) = verb_at(line, at) else {
@@ -104,7 +103,7 @@ fn close_line(alloc: Global, line: &Source<'_>, at: usize) -> Read<Plain>
 
 /// `"SET" chan ":" "POINTER" setter`
 #[tactic(auto, unfolding(crate::specs::Recording::set_line, bas_form::specs::Reader::built, bas_form::specs::Reader::both, bas_form::specs::Reader::terminal))]
-fn set_line(alloc: Global, line: &Source<'_>, at: usize) -> Read<Plain>
+fn set_line(alloc: Global, line: &TokenLine<'_>, at: usize) -> Read<Plain>
     ensures { IfOk result (λ o. o ≡ reading.set_line line.now at) }
 {
     let Some(_) = verb_at(line, at) else {
@@ -128,7 +127,7 @@ fn set_line(alloc: Global, line: &Source<'_>, at: usize) -> Read<Plain>
 
 /// `"READ" chan [ "," setter ] [ "," miss ] ":" targets`
 #[tactic(auto, unfolding(crate::specs::Recording::read_line, bas_form::specs::Reader::built, bas_form::specs::Reader::both, bas_form::specs::Reader::terminal))]
-fn read_line(alloc: Global, line: &Source<'_>, at: usize) -> Read<Plain>
+fn read_line(alloc: Global, line: &TokenLine<'_>, at: usize) -> Read<Plain>
     ensures { IfOk result (λ o. o ≡ reading.read_line line.now at) }
 {
     let Some(_) = verb_at(line, at) else {
@@ -150,7 +149,7 @@ type Written = (((Chan, Option<Setter>), Option<Miss>), Seq<Expr>);
 
 /// `( "WRITE" | "REWRITE" ) chan [ "," setter ] [ "," miss ] ":" expr { "," expr }`
 #[tactic(auto, unfolding(crate::specs::Recording::written, bas_form::specs::Reader::built, bas_form::specs::Reader::both, bas_form::specs::Reader::terminal))]
-fn written(alloc: Global, line: &Source<'_>, at: usize) -> Read<Written>
+fn written(alloc: Global, line: &TokenLine<'_>, at: usize) -> Read<Written>
     ensures { IfOk result (λ o. o ≡ reading.written line.now at) }
 {
     let Some(_) = verb_at(line, at) else {
@@ -170,7 +169,7 @@ fn written(alloc: Global, line: &Source<'_>, at: usize) -> Read<Written>
 
 /// `"WRITE"`, where the values are written.
 #[tactic(auto, unfolding(bas_form::specs::Reader::built))]
-fn write_line(alloc: Global, line: &Source<'_>, at: usize) -> Read<Plain>
+fn write_line(alloc: Global, line: &TokenLine<'_>, at: usize) -> Read<Plain>
     ensures { IfOk result (λ o. o ≡ reading.written_line line.now tree.Write at) }
 {
     let Some(((((chan, setter), miss), values), after)) = written(alloc, line, at)? else {
@@ -181,7 +180,7 @@ fn write_line(alloc: Global, line: &Source<'_>, at: usize) -> Read<Plain>
 
 /// `"REWRITE"`, where the values are written anew.
 #[tactic(auto, unfolding(bas_form::specs::Reader::built))]
-fn rewrite_line(alloc: Global, line: &Source<'_>, at: usize) -> Read<Plain>
+fn rewrite_line(alloc: Global, line: &TokenLine<'_>, at: usize) -> Read<Plain>
     ensures { IfOk result (λ o. o ≡ reading.written_line line.now tree.Rewrite at) }
 {
     let Some(((((chan, setter), miss), values), after)) = written(alloc, line, at)? else {
@@ -192,7 +191,7 @@ fn rewrite_line(alloc: Global, line: &Source<'_>, at: usize) -> Read<Plain>
 
 /// `"DELETE" chan [ "," setter ] [ "," miss ]`
 #[tactic(auto, unfolding(crate::specs::Recording::delete_line, bas_form::specs::Reader::built, bas_form::specs::Reader::both, bas_form::specs::Reader::terminal))]
-fn delete_line(alloc: Global, line: &Source<'_>, at: usize) -> Read<Plain>
+fn delete_line(alloc: Global, line: &TokenLine<'_>, at: usize) -> Read<Plain>
     ensures { IfOk result (λ o. o ≡ reading.delete_line line.now at) }
 {
     let Some(_) = verb_at(line, at) else {
@@ -208,7 +207,7 @@ fn delete_line(alloc: Global, line: &Source<'_>, at: usize) -> Read<Plain>
 #[tactic(auto, unfolding(crate::specs::Recording::record_statement_at, bas_form::specs::Reader::dispatched))]
 pub fn record_statement(
     alloc: Global,
-    line: &Source<'_>,
+    line: &TokenLine<'_>,
     at: usize,
 ) -> Result<Option<(Plain, usize)>, AllocError>
     ensures { IfOk result (λ o. o ≡ reading.record_statement_at line.now at) }

@@ -5,11 +5,11 @@ ghost use Rattle.std.specs.Option.{option_map};
 ghost use Rattle.bas_record.specs.Words as words;
 
 use bas_ast::{Access, Create, MissThen, MissWhen, Organization, Rectype};
-use bas_expr::source::Source;
+use bas_expr::TokenLine;
 use bas_token::TokenKind;
 
 /// A word that a statement on a channel begins with.
-#[derive(Clone, Copy, Debug, PartialEq, Eq)]
+#[derive(Clone, Copy)]
 pub enum Verb {
     Print,
     Line,
@@ -24,7 +24,7 @@ pub enum Verb {
 }
 
 /// A word that a setter begins with.
-#[derive(Clone, Copy, Debug, PartialEq, Eq)]
+#[derive(Clone, Copy)]
 pub enum SetterWord {
     Begin,
     End,
@@ -35,7 +35,7 @@ pub enum SetterWord {
 }
 
 /// A word that an attribute begins with.
-#[derive(Clone, Copy, Debug, PartialEq, Eq)]
+#[derive(Clone, Copy)]
 pub enum AttrWord {
     Organization,
     Rectype,
@@ -45,7 +45,7 @@ pub enum AttrWord {
 }
 
 /// What stands between `KEY` and the key.
-#[derive(Clone, Copy, Debug, PartialEq, Eq)]
+#[derive(Clone, Copy)]
 pub enum KeyRelation {
     Equal,
     AtLeast,
@@ -54,7 +54,7 @@ pub enum KeyRelation {
 
 /// The text of the word at a place.
 #[tactic(auto, unfolding(crate::specs::Words::spelled, bas_form::specs::Element::element_at))]
-fn spelled<'a>(line: &Source<'a>, at: usize) -> Option<&'a [u8]>
+fn spelled<'a>(line: &TokenLine<'a>, at: usize) -> Option<&'a [u8]>
     ensures value { option_map (λ t. t.now) result ≡ words.spelled line.now at }
     ensures within { IfSome result (λ _. at < 4096) }
 {
@@ -66,7 +66,7 @@ fn spelled<'a>(line: &Source<'a>, at: usize) -> Option<&'a [u8]>
 
 /// The word at a place that begins a statement on a channel.
 #[tactic(auto, unfolding(crate::specs::Words::verb))]
-pub fn verb_at(line: &Source<'_>, at: usize) -> Option<Verb>
+pub fn verb_at(line: &TokenLine<'_>, at: usize) -> Option<Verb>
     ensures value { result ≡ words.verb line.now at }
     ensures within { IfSome result (λ _. at < 4096) }
 {
@@ -98,7 +98,7 @@ pub fn verb_at(line: &Source<'_>, at: usize) -> Option<Verb>
 
 /// The word at a place that begins a setter.
 #[tactic(auto, unfolding(crate::specs::Words::setter_word))]
-pub fn setter_word(line: &Source<'_>, at: usize) -> Option<SetterWord>
+pub fn setter_word(line: &TokenLine<'_>, at: usize) -> Option<SetterWord>
     ensures value { result ≡ words.setter_word line.now at }
     ensures within { IfSome result (λ _. at < 4096) }
 {
@@ -122,7 +122,7 @@ pub fn setter_word(line: &Source<'_>, at: usize) -> Option<SetterWord>
 
 /// The word at a place that begins an attribute.
 #[tactic(auto, unfolding(crate::specs::Words::attr_word))]
-pub fn attr_word(line: &Source<'_>, at: usize) -> Option<AttrWord>
+pub fn attr_word(line: &TokenLine<'_>, at: usize) -> Option<AttrWord>
     ensures value { result ≡ words.attr_word line.now at }
     ensures within { IfSome result (λ _. at < 4096) }
 {
@@ -144,7 +144,7 @@ pub fn attr_word(line: &Source<'_>, at: usize) -> Option<AttrWord>
 
 /// How the values of a file stand in it, as the word at a place says.
 #[tactic(auto, unfolding(crate::specs::Words::organization))]
-pub fn organization(line: &Source<'_>, at: usize) -> Option<Organization>
+pub fn organization(line: &TokenLine<'_>, at: usize) -> Option<Organization>
     ensures value { result ≡ words.organization line.now at }
     ensures within { IfSome result (λ _. at < 4096) }
 {
@@ -164,7 +164,7 @@ pub fn organization(line: &Source<'_>, at: usize) -> Option<Organization>
 
 /// Whether a file has text or values, as the word at a place says.
 #[tactic(auto, unfolding(crate::specs::Words::rectype))]
-pub fn rectype(line: &Source<'_>, at: usize) -> Option<Rectype>
+pub fn rectype(line: &TokenLine<'_>, at: usize) -> Option<Rectype>
     ensures value { result ≡ words.rectype line.now at }
     ensures within { IfSome result (λ _. at < 4096) }
 {
@@ -180,7 +180,7 @@ pub fn rectype(line: &Source<'_>, at: usize) -> Option<Rectype>
 
 /// Whether a file is read, written or both, as the word at a place says.
 #[tactic(auto, unfolding(crate::specs::Words::access))]
-pub fn access(line: &Source<'_>, at: usize) -> Option<Access>
+pub fn access(line: &TokenLine<'_>, at: usize) -> Option<Access>
     ensures value { result ≡ words.access line.now at }
     ensures within { IfSome result (λ _. at < 4096) }
 {
@@ -198,7 +198,7 @@ pub fn access(line: &Source<'_>, at: usize) -> Option<Access>
 
 /// Whether a file must be new or old, as the word at a place says.
 #[tactic(auto, unfolding(crate::specs::Words::create))]
-pub fn create(line: &Source<'_>, at: usize) -> Option<Create>
+pub fn create(line: &TokenLine<'_>, at: usize) -> Option<Create>
     ensures value { result ≡ words.create line.now at }
     ensures within { IfSome result (λ _. at < 4096) }
 {
@@ -216,7 +216,7 @@ pub fn create(line: &Source<'_>, at: usize) -> Option<Create>
 
 /// What a statement waits for, as the word at a place says.
 #[tactic(auto, unfolding(crate::specs::Words::miss_when))]
-pub fn miss_when(line: &Source<'_>, at: usize) -> Option<MissWhen>
+pub fn miss_when(line: &TokenLine<'_>, at: usize) -> Option<MissWhen>
     ensures value { result ≡ words.miss_when line.now at }
     ensures within { IfSome result (λ _. at < 4096) }
 {
@@ -232,7 +232,7 @@ pub fn miss_when(line: &Source<'_>, at: usize) -> Option<MissWhen>
 
 /// Which loop `EXIT` leaves, as the word at a place says.
 #[tactic(auto, unfolding(crate::specs::Words::exit))]
-pub fn exit(line: &Source<'_>, at: usize) -> Option<MissThen>
+pub fn exit(line: &TokenLine<'_>, at: usize) -> Option<MissThen>
     ensures value { result ≡ words.exit line.now at }
     ensures within { IfSome result (λ _. at < 4096) }
 {
@@ -259,7 +259,7 @@ fn key_relation_of_text(text: &[u8]) -> Option<KeyRelation>
 
 /// The relation of a key at a place.
 #[tactic(auto, unfolding(crate::specs::Words::key_relation, bas_form::specs::Element::element_at))]
-pub fn key_relation(line: &Source<'_>, at: usize) -> Option<KeyRelation>
+pub fn key_relation(line: &TokenLine<'_>, at: usize) -> Option<KeyRelation>
     ensures value { result ≡ words.key_relation line.now at }
     ensures within { IfSome result (λ _. at < 4096) }
 {

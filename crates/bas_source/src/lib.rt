@@ -10,8 +10,6 @@ mod examples;
 mod join;
 mod lines;
 mod number;
-#[cfg(test)]
-mod tests;
 
 pub use examples::{worked_files, worked_numbers};
 pub use join::logical_lines;

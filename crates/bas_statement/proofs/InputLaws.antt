@@ -16,7 +16,7 @@ use Rattle.bas_expr.proofs.MarkLaws.{stops, mark_inside}
 use Rattle.bas_balance.specs.Balance.{Balanced, Balances}
 use Rattle.bas_balance.proofs.BalanceLaws.{joined, comma_plain, mark_balances, separated_balances, built_balances, colon_ends}
 use Rattle.bas_balance.proofs.ExpressionBalance.{expr_balances, target_balances}
-use Rattle.bas_declaration.specs.declared.TheConstants.{LEVELS}
+use Rattle.bas_expr.specs.declared.TheConstants.{LEVELS}
 use Rattle.bas_declaration.specs.Parts.{listed_of, Listed}
 use Rattle.bas_declaration.specs.Keywords.{spells}
 use Rattle.bas_declaration.proofs.WordLaws.{spells_inside}

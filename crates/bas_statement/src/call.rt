@@ -7,8 +7,7 @@ ghost use Rattle.bas_statement.specs.Reading as reading;
 use crate::verb::verb_at;
 use bas_ast::{Actual, Args, Plain};
 use bas_base::Seq;
-use bas_expr::expression::expr;
-use bas_expr::source::Source;
+use bas_expr::{TokenLine, longest_expr};
 use bas_list::INNER_LEVELS;
 use sqlite_items::Items;
 use std::alloc::{AllocError, Global};
@@ -17,15 +16,15 @@ type Read<T> = Result<Option<(T, usize)>, AllocError>;
 
 /// `expr | "#" expr`
 #[tactic(auto, unfolding(crate::specs::Reading::argument, bas_expr::specs::Reading::one_actual))]
-fn argument(alloc: Global, line: &Source<'_>, at: usize) -> Read<Actual>
+fn argument(alloc: Global, line: &TokenLine<'_>, at: usize) -> Read<Actual>
     ensures { IfOk result (λ o. o ≡ reading.argument line.now at) }
 {
     match line.hash(at) {
-        Some(()) => match expr(alloc, line, at + 1, INNER_LEVELS)? {
+        Some(()) => match longest_expr(alloc, line, at + 1, INNER_LEVELS)? {
             Some((number, after)) => Ok(Some((Actual::Chan(number), after))),
             None => Ok(None),
         },
-        None => match expr(alloc, line, at, INNER_LEVELS)? {
+        None => match longest_expr(alloc, line, at, INNER_LEVELS)? {
             Some((value, after)) => Ok(Some((Actual::Expr(value), after))),
             None => Ok(None),
         },
@@ -34,7 +33,7 @@ fn argument(alloc: Global, line: &Source<'_>, at: usize) -> Read<Actual>
 
 /// `"," actual`
 #[tactic(auto, unfolding(crate::specs::Reading::argument, bas_form::specs::Reader::built, bas_form::specs::Reader::both, bas_form::specs::Reader::terminal))]
-fn next_argument(alloc: Global, line: &Source<'_>, at: usize) -> Read<Actual>
+fn next_argument(alloc: Global, line: &TokenLine<'_>, at: usize) -> Read<Actual>
     ensures { IfOk result (λ o. o ≡ reading.next_argument line.now at) }
 {
     let Some(()) = line.comma(at) else {
@@ -49,7 +48,7 @@ fn next_argument(alloc: Global, line: &Source<'_>, at: usize) -> Read<Actual>
 /// `{ "," actual }`
 fn more_arguments(
     alloc: Global,
-    line: &Source<'_>,
+    line: &TokenLine<'_>,
     mut at: usize,
     first: Actual,
 ) -> Result<(Vec<Actual>, usize), AllocError>
@@ -66,7 +65,7 @@ fn more_arguments(
 
 /// `actual { "," actual }`
 #[tactic(auto, unfolding(crate::specs::Reading::argument_list, crate::specs::Reading::argument, bas_form::specs::Reader::built, bas_form::specs::Reader::both, bas_form::specs::Reader::repeated))]
-fn argument_list(alloc: Global, line: &Source<'_>, at: usize) -> Read<Seq<Actual>>
+fn argument_list(alloc: Global, line: &TokenLine<'_>, at: usize) -> Read<Seq<Actual>>
     ensures { IfOk result (λ o. o ≡ reading.argument_list line.now at) }
 {
     let Some((first, after)) = argument(alloc, line, at)? else {
@@ -78,7 +77,7 @@ fn argument_list(alloc: Global, line: &Source<'_>, at: usize) -> Read<Seq<Actual
 
 /// `"(" actual { "," actual } ")"`
 #[tactic(auto, unfolding(crate::specs::Reading::arguments, bas_form::specs::Reader::built, bas_form::specs::Reader::both, bas_form::specs::Reader::terminal))]
-fn arguments(alloc: Global, line: &Source<'_>, at: usize) -> Read<Seq<Actual>>
+fn arguments(alloc: Global, line: &TokenLine<'_>, at: usize) -> Read<Seq<Actual>>
     ensures { IfOk result (λ o. o ≡ reading.arguments line.now at) }
 {
     let Some(()) = line.opening(at) else {
@@ -95,7 +94,7 @@ fn arguments(alloc: Global, line: &Source<'_>, at: usize) -> Read<Seq<Actual>>
 
 /// `"CALL" name [ "(" actual { "," actual } ")" ]`
 #[tactic(auto, unfolding(crate::specs::Reading::call_statement, bas_form::specs::Reader::built, bas_form::specs::Reader::both, bas_form::specs::Reader::optional, bas_form::specs::Reader::terminal))]
-pub fn call_statement(alloc: Global, line: &Source<'_>, at: usize) -> Read<Plain>
+pub fn call_statement(alloc: Global, line: &TokenLine<'_>, at: usize) -> Read<Plain>
     ensures { IfOk result (λ o. o ≡ reading.call_statement line.now at) }
 {
     let Some(_) = verb_at(line, at) else {

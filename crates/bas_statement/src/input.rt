@@ -5,10 +5,8 @@ ghost use Rattle.bas_statement.specs.Reading as reading;
 
 use crate::verb::verb_at;
 use bas_ast::{Expr, Plain, Targets};
-use bas_declaration::LEVELS;
 use bas_declaration::keyword::spells;
-use bas_expr::expression::expr;
-use bas_expr::source::Source;
+use bas_expr::{LEVELS, TokenLine, longest_expr};
 use bas_list::targets;
 use std::alloc::{AllocError, Global};
 
@@ -16,13 +14,13 @@ type Read<T> = Result<Option<(T, usize)>, AllocError>;
 
 /// `"PROMPT" expr ":"`
 #[tactic(auto, unfolding(crate::specs::Reading::prompt, bas_form::specs::Reader::built, bas_form::specs::Reader::both, bas_form::specs::Reader::terminal))]
-fn prompt(alloc: Global, line: &Source<'_>, at: usize) -> Read<Expr>
+fn prompt(alloc: Global, line: &TokenLine<'_>, at: usize) -> Read<Expr>
     ensures { IfOk result (λ o. o ≡ reading.prompt line.now at) }
 {
     let Some(()) = spells(line, at, b"PROMPT") else {
         return Ok(None);
     };
-    let Some((prompt, after)) = expr(alloc, line, at + 1, LEVELS)? else {
+    let Some((prompt, after)) = longest_expr(alloc, line, at + 1, LEVELS)? else {
         return Ok(None);
     };
     let Some(()) = line.colon(after) else {
@@ -33,7 +31,7 @@ fn prompt(alloc: Global, line: &Source<'_>, at: usize) -> Read<Expr>
 
 /// `"PROMPT" expr ":" targets`
 #[tactic(auto, unfolding(bas_form::specs::Reader::built, bas_form::specs::Reader::both))]
-fn prompted(alloc: Global, line: &Source<'_>, at: usize) -> Read<(Option<Expr>, Targets)>
+fn prompted(alloc: Global, line: &TokenLine<'_>, at: usize) -> Read<(Option<Expr>, Targets)>
     ensures { IfOk result (λ o. o ≡ reading.prompted_targets line.now at) }
 {
     let Some((prompt, at)) = prompt(alloc, line, at)? else {
@@ -47,7 +45,7 @@ fn prompted(alloc: Global, line: &Source<'_>, at: usize) -> Read<(Option<Expr>, 
 
 /// `[ "PROMPT" expr ":" ] targets`
 #[tactic(auto, unfolding(crate::specs::Reading::asked, bas_form::specs::Reader::either, bas_form::specs::Reader::built))]
-fn asked(alloc: Global, line: &Source<'_>, at: usize) -> Read<(Option<Expr>, Targets)>
+fn asked(alloc: Global, line: &TokenLine<'_>, at: usize) -> Read<(Option<Expr>, Targets)>
     ensures { IfOk result (λ o. o ≡ reading.asked line.now at) }
 {
     if let Some(found) = prompted(alloc, line, at)? {
@@ -61,7 +59,7 @@ fn asked(alloc: Global, line: &Source<'_>, at: usize) -> Read<(Option<Expr>, Tar
 
 /// `"INPUT" [ "PROMPT" expr ":" ] targets`
 #[tactic(auto, unfolding(crate::specs::Reading::input_statement, bas_form::specs::Reader::built, bas_form::specs::Reader::both, bas_form::specs::Reader::terminal))]
-pub fn input_statement(alloc: Global, line: &Source<'_>, at: usize) -> Read<Plain>
+pub fn input_statement(alloc: Global, line: &TokenLine<'_>, at: usize) -> Read<Plain>
     ensures { IfOk result (λ o. o ≡ reading.input_statement line.now at) }
 {
     let Some(_) = verb_at(line, at) else {
@@ -75,7 +73,7 @@ pub fn input_statement(alloc: Global, line: &Source<'_>, at: usize) -> Read<Plai
 
 /// `"INPUT" [ "PROMPT" expr ":" ] targets`, behind `LINE`.
 #[tactic(auto, unfolding(crate::specs::Reading::input_asked, bas_form::specs::Reader::built, bas_form::specs::Reader::both, bas_form::specs::Reader::terminal))]
-fn input_asked(alloc: Global, line: &Source<'_>, at: usize) -> Read<(Option<Expr>, Targets)>
+fn input_asked(alloc: Global, line: &TokenLine<'_>, at: usize) -> Read<(Option<Expr>, Targets)>
     ensures { IfOk result (λ o. o ≡ reading.input_asked line.now at) }
 {
     let Some(()) = spells(line, at, b"INPUT") else {
@@ -89,7 +87,7 @@ fn input_asked(alloc: Global, line: &Source<'_>, at: usize) -> Read<(Option<Expr
 
 /// `"LINE" "INPUT" [ "PROMPT" expr ":" ] targets`
 #[tactic(auto, unfolding(crate::specs::Reading::line_input_statement, bas_form::specs::Reader::built, bas_form::specs::Reader::both, bas_form::specs::Reader::terminal))]
-pub fn line_input_statement(alloc: Global, line: &Source<'_>, at: usize) -> Read<Plain>
+pub fn line_input_statement(alloc: Global, line: &TokenLine<'_>, at: usize) -> Read<Plain>
     ensures { IfOk result (λ o. o ≡ reading.line_input_statement line.now at) }
 {
     let Some(_) = verb_at(line, at) else {
@@ -103,7 +101,7 @@ pub fn line_input_statement(alloc: Global, line: &Source<'_>, at: usize) -> Read
 
 /// `"READ" targets`
 #[tactic(auto, unfolding(crate::specs::Reading::read_statement, bas_form::specs::Reader::built, bas_form::specs::Reader::both, bas_form::specs::Reader::terminal))]
-pub fn read_statement(alloc: Global, line: &Source<'_>, at: usize) -> Read<Plain>
+pub fn read_statement(alloc: Global, line: &TokenLine<'_>, at: usize) -> Read<Plain>
     ensures { IfOk result (λ o. o ≡ reading.read_statement line.now at) }
 {
     let Some(_) = verb_at(line, at) else {

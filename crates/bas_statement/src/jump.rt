@@ -8,12 +8,12 @@ ghost use Rattle.bas_statement.specs.Reading as reading;
 use crate::verb::{Jump, exit_word, jump_word, verb_at};
 use bas_ast::Plain;
 use bas_base::Line;
-use bas_expr::source::Source;
+use bas_expr::TokenLine;
 use bas_list::word::line_number;
 
 /// `"RESTORE" [ number ]`
 #[tactic(auto, unfolding(crate::specs::Reading::restore_statement, bas_form::specs::Reader::built, bas_form::specs::Reader::both, bas_form::specs::Reader::optional, bas_form::specs::Reader::terminal))]
-pub fn restore_statement(line: &Source<'_>, at: usize) -> Option<(Plain, usize)>
+pub fn restore_statement(line: &TokenLine<'_>, at: usize) -> Option<(Plain, usize)>
     ensures { result ≡ reading.restore_statement line.now at }
 {
     let Some(_) = verb_at(line, at) else {
@@ -28,7 +28,7 @@ pub fn restore_statement(line: &Source<'_>, at: usize) -> Option<(Plain, usize)>
 
 /// `"GOTO" number`
 #[tactic(auto, unfolding(crate::specs::Reading::jumping, bas_form::specs::Reader::built, bas_form::specs::Reader::both, bas_form::specs::Reader::terminal))]
-pub fn goto_statement(line: &Source<'_>, at: usize) -> Option<(Plain, usize)>
+pub fn goto_statement(line: &TokenLine<'_>, at: usize) -> Option<(Plain, usize)>
     ensures { result ≡ reading.jumping line.now plain.Goto at }
 {
     let Some(_) = verb_at(line, at) else {
@@ -43,7 +43,7 @@ pub fn goto_statement(line: &Source<'_>, at: usize) -> Option<(Plain, usize)>
 
 /// `"GOSUB" number`
 #[tactic(auto, unfolding(crate::specs::Reading::jumping, bas_form::specs::Reader::built, bas_form::specs::Reader::both, bas_form::specs::Reader::terminal))]
-pub fn gosub_statement(line: &Source<'_>, at: usize) -> Option<(Plain, usize)>
+pub fn gosub_statement(line: &TokenLine<'_>, at: usize) -> Option<(Plain, usize)>
     ensures { result ≡ reading.jumping line.now plain.Gosub at }
 {
     let Some(_) = verb_at(line, at) else {
@@ -67,7 +67,7 @@ fn jump_to(jump: Jump, number: Line) -> Plain
 
 /// `"GO" ( "TO" | "SUB" ) number`
 #[tactic(auto, unfolding(crate::specs::Reading::go_statement, bas_form::specs::Reader::built, bas_form::specs::Reader::both, bas_form::specs::Reader::terminal))]
-pub fn go_statement(line: &Source<'_>, at: usize) -> Option<(Plain, usize)>
+pub fn go_statement(line: &TokenLine<'_>, at: usize) -> Option<(Plain, usize)>
     ensures { result ≡ reading.go_statement line.now at }
 {
     let Some(_) = verb_at(line, at) else {
@@ -86,7 +86,7 @@ pub fn go_statement(line: &Source<'_>, at: usize) -> Option<(Plain, usize)>
 
 /// `"EXIT" ( "DO" | "FOR" | "SUB" | "FUNCTION" | "HANDLER" )`
 #[tactic(auto, unfolding(crate::specs::Reading::exit_statement, bas_form::specs::Reader::built, bas_form::specs::Reader::both, bas_form::specs::Reader::terminal))]
-pub fn exit_statement(line: &Source<'_>, at: usize) -> Option<(Plain, usize)>
+pub fn exit_statement(line: &TokenLine<'_>, at: usize) -> Option<(Plain, usize)>
     ensures { result ≡ reading.exit_statement line.now at }
 {
     let Some(_) = verb_at(line, at) else {
@@ -101,7 +101,7 @@ pub fn exit_statement(line: &Source<'_>, at: usize) -> Option<(Plain, usize)>
 
 /// A statement of one word.
 #[tactic(auto, unfolding(crate::specs::Reading::alone, bas_form::specs::Reader::built, bas_form::specs::Reader::terminal))]
-pub fn alone(line: &Source<'_>, at: usize, statement: Plain) -> Option<(Plain, usize)>
+pub fn alone(line: &TokenLine<'_>, at: usize, statement: Plain) -> Option<(Plain, usize)>
     ensures { result ≡ reading.alone line.now statement at }
 {
     match verb_at(line, at) {

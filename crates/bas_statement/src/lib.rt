@@ -10,8 +10,6 @@ mod input;
 mod jump;
 mod law;
 mod plain;
-#[cfg(test)]
-mod tests;
 mod value;
 pub mod verb;
 

@@ -11,14 +11,14 @@ use crate::jump::{
 use crate::value::{cause_statement, chain_statement, let_statement, print_statement};
 use crate::verb::{Verb, verb_at};
 use bas_ast::Plain;
-use bas_expr::source::Source;
+use bas_expr::TokenLine;
 use std::alloc::{AllocError, Global};
 
 /// The longest statement from a place on, and the place after it.
 #[tactic(auto, unfolding(crate::specs::Reading::statement_at, bas_form::specs::Reader::dispatched))]
 pub fn statement(
     alloc: Global,
-    line: &Source<'_>,
+    line: &TokenLine<'_>,
     at: usize,
 ) -> Result<Option<(Plain, usize)>, AllocError>
     ensures { IfOk result (λ o. o ≡ statement_at line.now at) }

@@ -7,17 +7,15 @@ ghost use Rattle.bas_statement.specs.Reading as reading;
 use crate::verb::verb_at;
 use bas_ast::{Expr, Plain, Rel};
 use bas_base::Seq;
-use bas_declaration::LEVELS;
 use bas_declaration::keyword::{exception_word, spells};
-use bas_expr::expression::expr;
-use bas_expr::source::Source;
+use bas_expr::{LEVELS, TokenLine, longest_expr};
 use bas_list::{enclosed_values, print_list, targets};
 use std::alloc::{AllocError, Global};
 
 type Read<T> = Result<Option<(T, usize)>, AllocError>;
 
 /// The `=` at a place.
-fn equals(line: &Source<'_>, at: usize) -> Option<()>
+fn equals(line: &TokenLine<'_>, at: usize) -> Option<()>
     ensures value { result ≡ equals line.now at }
     ensures within { IfSome result (λ _. at < 4096) }
 {
@@ -29,13 +27,13 @@ fn equals(line: &Source<'_>, at: usize) -> Option<()>
 
 /// `"=" expr`
 #[tactic(auto, unfolding(crate::specs::Reading::equals_value, bas_form::specs::Reader::both, bas_form::specs::Reader::terminal))]
-fn equals_value(alloc: Global, line: &Source<'_>, at: usize) -> Read<((), Expr)>
+fn equals_value(alloc: Global, line: &TokenLine<'_>, at: usize) -> Read<((), Expr)>
     ensures { IfOk result (λ o. o ≡ reading.equals_value line.now at) }
 {
     let Some(()) = equals(line, at) else {
         return Ok(None);
     };
-    match expr(alloc, line, at + 1, LEVELS)? {
+    match longest_expr(alloc, line, at + 1, LEVELS)? {
         Some((value, after)) => Ok(Some((((), value), after))),
         None => Ok(None),
     }
@@ -43,7 +41,7 @@ fn equals_value(alloc: Global, line: &Source<'_>, at: usize) -> Read<((), Expr)>
 
 /// `"LET" targets "=" expr`
 #[tactic(auto, unfolding(crate::specs::Reading::let_statement, bas_form::specs::Reader::built, bas_form::specs::Reader::both, bas_form::specs::Reader::terminal))]
-pub fn let_statement(alloc: Global, line: &Source<'_>, at: usize) -> Read<Plain>
+pub fn let_statement(alloc: Global, line: &TokenLine<'_>, at: usize) -> Read<Plain>
     ensures { IfOk result (λ o. o ≡ reading.let_statement line.now at) }
 {
     let Some(_) = verb_at(line, at) else {
@@ -60,7 +58,7 @@ pub fn let_statement(alloc: Global, line: &Source<'_>, at: usize) -> Read<Plain>
 
 /// `"PRINT" plist`
 #[tactic(auto, unfolding(crate::specs::Reading::print_statement, bas_form::specs::Reader::built, bas_form::specs::Reader::both, bas_form::specs::Reader::terminal))]
-pub fn print_statement(alloc: Global, line: &Source<'_>, at: usize) -> Read<Plain>
+pub fn print_statement(alloc: Global, line: &TokenLine<'_>, at: usize) -> Read<Plain>
     ensures { IfOk result (λ o. o ≡ reading.print_statement line.now at) }
 {
     let Some(_) = verb_at(line, at) else {
@@ -72,13 +70,13 @@ pub fn print_statement(alloc: Global, line: &Source<'_>, at: usize) -> Read<Plai
 
 /// `"EXCEPTION" expr`
 #[tactic(auto, unfolding(crate::specs::Reading::exception, bas_form::specs::Reader::built, bas_form::specs::Reader::both, bas_form::specs::Reader::terminal))]
-fn exception(alloc: Global, line: &Source<'_>, at: usize) -> Read<Expr>
+fn exception(alloc: Global, line: &TokenLine<'_>, at: usize) -> Read<Expr>
     ensures { IfOk result (λ o. o ≡ reading.exception line.now at) }
 {
     let Some(()) = exception_word(line, at) else {
         return Ok(None);
     };
-    match expr(alloc, line, at + 1, LEVELS)? {
+    match longest_expr(alloc, line, at + 1, LEVELS)? {
         Some((number, after)) => Ok(Some((number, after))),
         None => Ok(None),
     }
@@ -86,7 +84,7 @@ fn exception(alloc: Global, line: &Source<'_>, at: usize) -> Read<Expr>
 
 /// `"CAUSE" "EXCEPTION" expr`
 #[tactic(auto, unfolding(crate::specs::Reading::cause_statement, bas_form::specs::Reader::built, bas_form::specs::Reader::both, bas_form::specs::Reader::terminal))]
-pub fn cause_statement(alloc: Global, line: &Source<'_>, at: usize) -> Read<Plain>
+pub fn cause_statement(alloc: Global, line: &TokenLine<'_>, at: usize) -> Read<Plain>
     ensures { IfOk result (λ o. o ≡ reading.cause_statement line.now at) }
 {
     let Some(_) = verb_at(line, at) else {
@@ -100,7 +98,7 @@ pub fn cause_statement(alloc: Global, line: &Source<'_>, at: usize) -> Read<Plai
 
 /// `"WITH" "(" expr { "," expr } ")"`
 #[tactic(auto, unfolding(crate::specs::Reading::with_values, bas_form::specs::Reader::built, bas_form::specs::Reader::both, bas_form::specs::Reader::terminal))]
-fn with_values(alloc: Global, line: &Source<'_>, at: usize) -> Read<Seq<Expr>>
+fn with_values(alloc: Global, line: &TokenLine<'_>, at: usize) -> Read<Seq<Expr>>
     ensures { IfOk result (λ o. o ≡ reading.with_values line.now at) }
 {
     let Some(()) = spells(line, at, b"WITH") else {
@@ -114,13 +112,13 @@ fn with_values(alloc: Global, line: &Source<'_>, at: usize) -> Read<Seq<Expr>>
 
 /// `"CHAIN" expr [ "WITH" "(" expr { "," expr } ")" ]`
 #[tactic(auto, unfolding(crate::specs::Reading::chain_statement, bas_form::specs::Reader::built, bas_form::specs::Reader::both, bas_form::specs::Reader::optional, bas_form::specs::Reader::terminal))]
-pub fn chain_statement(alloc: Global, line: &Source<'_>, at: usize) -> Read<Plain>
+pub fn chain_statement(alloc: Global, line: &TokenLine<'_>, at: usize) -> Read<Plain>
     ensures { IfOk result (λ o. o ≡ reading.chain_statement line.now at) }
 {
     let Some(_) = verb_at(line, at) else {
         return Ok(None);
     };
-    let Some((program, at)) = expr(alloc, line, at + 1, LEVELS)? else {
+    let Some((program, at)) = longest_expr(alloc, line, at + 1, LEVELS)? else {
         return Ok(None);
     };
     match with_values(alloc, line, at)? {

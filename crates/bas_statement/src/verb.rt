@@ -6,11 +6,11 @@ ghost use Rattle.bas_statement.specs.Verbs as verbs;
 
 use bas_ast::Plain;
 use bas_declaration::keyword::{Keyword, word_at};
-use bas_expr::source::Source;
+use bas_expr::TokenLine;
 use bas_token::TokenKind;
 
 /// A word that a statement begins with.
-#[derive(Clone, Copy, Debug, PartialEq, Eq)]
+#[derive(Clone, Copy)]
 pub enum Verb {
     Let,
     Print,
@@ -32,7 +32,7 @@ pub enum Verb {
 }
 
 /// The word behind `GO`.
-#[derive(Clone, Copy, Debug, PartialEq, Eq)]
+#[derive(Clone, Copy)]
 pub enum Jump {
     To,
     Sub,
@@ -111,7 +111,7 @@ pub fn verb_of_text(text: &[u8]) -> Option<Verb>
 
 /// The word at a place.
 #[tactic(auto, unfolding(crate::specs::Verbs::verb, bas_form::specs::Element::element_at))]
-pub fn verb_at(line: &Source<'_>, at: usize) -> Option<Verb>
+pub fn verb_at(line: &TokenLine<'_>, at: usize) -> Option<Verb>
     ensures value { result ≡ verbs.verb line.now at }
     ensures within { IfSome result (λ _. at < 4096) }
 {
@@ -122,7 +122,7 @@ pub fn verb_at(line: &Source<'_>, at: usize) -> Option<Verb>
 }
 
 /// What `EXIT` leaves, by the word at a place, behind it.
-pub fn exit_word(line: &Source<'_>, at: usize) -> Option<Plain>
+pub fn exit_word(line: &TokenLine<'_>, at: usize) -> Option<Plain>
     ensures value { result ≡ at_word verbs.exit_word line.now at }
     ensures within { IfSome result (λ _. at < 4096) }
 {
@@ -137,7 +137,7 @@ pub fn exit_word(line: &Source<'_>, at: usize) -> Option<Plain>
 }
 
 /// `"TO" | "SUB"`
-pub fn jump_word(line: &Source<'_>, at: usize) -> Option<Jump>
+pub fn jump_word(line: &TokenLine<'_>, at: usize) -> Option<Jump>
     ensures value { result ≡ at_word verbs.jump_word line.now at }
     ensures within { IfSome result (λ _. at < 4096) }
 {

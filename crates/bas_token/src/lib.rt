@@ -13,6 +13,3 @@ mod token;
 pub use cut::tokens;
 pub use law::tokens_in_order;
 pub use token::{Token, TokenFault, TokenKind};
-
-#[cfg(test)]
-mod tests;

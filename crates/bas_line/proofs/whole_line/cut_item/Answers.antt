@@ -1,7 +1,7 @@
 use Rattle.std.proofs.Common.{◌≤◌, List, length, All, sym, subst, arith}
 use Rattle.bas_token.specs.declared.token.Token.{Token}
 use Rattle.bas_token.proofs.CutLaws.{tokens_count}
-use Rattle.bas_expr.specs.Source.{LiesIn}
+use Rattle.bas_expr.specs.TokenLine.{LiesIn}
 use Rattle.bas_expr.proofs.TokenLaws.{tokens_lie}
 use Rattle.bas_line.proofs.TokenCut.{tokens_sound}
 use Rattle.bas_line.proofs.whole_line.cut_item.Goals as goal
