@@ -11,8 +11,6 @@ mod file_name;
 mod line;
 mod name;
 mod seq;
-#[cfg(test)]
-mod tests;
 mod text;
 
 pub use examples::{worked_file_names, worked_names};

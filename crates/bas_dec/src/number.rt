@@ -101,6 +101,3 @@ impl Dec {
         raised(self.coefficient, scale - self.scale)
     }
 }
-
-#[cfg(test)]
-mod tests;

@@ -224,6 +224,3 @@ fn number(mut size: Wide, mut scale: u8) -> Option<Dec>
         scale -= 1;
     }
 }
-
-#[cfg(test)]
-mod tests;

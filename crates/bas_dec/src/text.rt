@@ -148,6 +148,3 @@ impl Dec {
         text.copy_to(out)
     }
 }
-
-#[cfg(test)]
-mod tests;

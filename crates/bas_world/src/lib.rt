@@ -18,8 +18,6 @@ mod sure_sink;
 mod sure_source;
 mod sure_store;
 mod table;
-#[cfg(test)]
-mod tests;
 
 pub use mem_sink::MemSink;
 pub use mem_source::MemSource;
