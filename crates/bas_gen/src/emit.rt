@@ -1,6 +1,6 @@
 //! The code and the line table of blocks, in the order of the text.
 
-ghost use Rattle.std.specs.Prelude.{◌≡◌, suc, ◌+◌, ◌≤◌, [], ◌∷◌, ◌++◌, length, OnOk};
+ghost use Rattle.std.specs.Prelude.{◌≡◌, suc, ◌+◌, ◌≤◌, List, [], ◌∷◌, ◌++◌, length, OnOk};
 ghost use Rattle.bas_ast.specs.Tree as t;
 ghost use Rattle.std.specs.Option.{option_map};
 ghost use Rattle.bas_ast.specs.ConditionTree.{cond_tree};
@@ -16,6 +16,7 @@ ghost use Rattle.bas_ast.specs.BlockTree.{
   sections_tree,
   stmts_tree,
 };
+ghost use Rattle.bas_mean.specs.World.{Variable};
 ghost use Rattle.bas_code.specs.declared.instr.Instr.TheVariants as instr;
 ghost use Rattle.bas_carry.specs.Codes.{
   cond_size,
@@ -70,7 +71,7 @@ use bas_ast::{Block, Cond, LineItem, Loopc, NumLine, Pitem, Plain, Section, Stmt
 use bas_base::Line;
 use bas_code::{Instr, JumpInstr, PrintInstr, PushInstr, RunInstr, StoreInstr, TERMINAL};
 use bas_genexpr::{
-    Aim, CODE_LIMIT, Code, Slots, condition_size, joined, place, put_condition, put_expression,
+    Aim, CODE_LIMIT, Code, Slots, capped_sum, condition_size, place, put_condition, put_expression,
 };
 use std::alloc::{AllocError, Global};
 
@@ -97,15 +98,10 @@ fn put_print(code: &mut Code, slots: &Slots, item: &Option<Pitem>) -> Result<(),
     }
 }
 
-fn put_exit(
-    code: &mut Code,
-    slots: &Slots,
-    targets: &Targets,
-    do_line: Option<u32>,
-) -> Result<(), AllocError>
-    ensures { OnOk result (code.new ≡ code.old ++ exit_code (variables slots.now) (address_at targets.now) do_line) }
+// The jump of `EXIT DO`, which is the same whatever the variables are.
+fn put_exit(code: &mut Code, targets: &Targets, do_line: Option<u32>) -> Result<(), AllocError>
+    ensures { (order : List Variable) → OnOk result (code.new ≡ code.old ++ exit_code order (address_at targets.now) do_line) }
 {
-    let _slots = slots;
     match do_line {
         Some(number) => {
             let to = targets.address(Target::End(number));
@@ -138,7 +134,7 @@ fn put_plain(
             let to = targets.address(Target::Line(line.number()));
             code.push(Instr::Jump(JumpInstr::Jump(to)))
         }
-        PlainKind::ExitDo => put_exit(code, slots, targets, do_line),
+        PlainKind::ExitDo => put_exit(code, targets, do_line),
         PlainKind::Other => Ok(()),
     }
 }
@@ -219,7 +215,7 @@ pub fn put_closing(
 }
 
 /// What a section knows of its construct.
-#[derive(Clone, Copy, Debug)]
+#[derive(Clone, Copy)]
 struct Spot {
     last: bool,
     going: bool,
@@ -308,7 +304,7 @@ pub fn enter_closing(
                 output,
                 end.line,
                 from,
-                behind(from, joined(size, 1)),
+                behind(from, capped_sum(size, 1)),
                 finish,
             )
         }

@@ -51,11 +51,11 @@ ghost use Rattle.bas_gen.specs.Layouts.{
 
 use crate::line::{LineKind, PlainKind, kind_of, loop_condition, plain_kind_of};
 use bas_ast::{Block, Cond, LineItem, Loopc, NumLine, Pitem, Plain, Section, Stmt};
-use bas_genexpr::{CODE_LIMIT, condition_size, expression_size, joined};
+use bas_genexpr::{CODE_LIMIT, capped_sum, condition_size, expression_size};
 use std::alloc::{AllocError, Global};
 
 /// Where a jump goes: to a line, behind the loop that a line opens, or to that loop's next turn.
-#[derive(Clone, Copy, Debug)]
+#[derive(Clone, Copy)]
 pub enum Target {
     Line(u32),
     End(u32),
@@ -63,14 +63,14 @@ pub enum Target {
 }
 
 /// A target and its address.
-#[derive(Clone, Copy, Debug)]
+#[derive(Clone, Copy)]
 pub struct Label {
     pub target: Target,
     pub address: u16,
 }
 
 /// Sizes and targets in the order of the text.
-#[derive(Debug, Drop)]
+#[derive(Drop)]
 pub struct Layout {
     pub sizes: Vec<u32>,
     pub labels: Vec<Label>,
@@ -81,7 +81,7 @@ fn size_of_item(item: &Pitem) -> u32
     ensures { result ≡ counted (print_size (Some (pitem_tree item.now))) }
 {
     match item {
-        Pitem::Expr(e) => joined(expression_size(e), 2),
+        Pitem::Expr(e) => capped_sum(expression_size(e), 2),
         Pitem::Tab(_) => 1,
     }
 }
@@ -103,7 +103,7 @@ fn size_of_plain(plain: &Plain) -> u32
             if targets.targets.items().is_empty() {
                 0
             } else {
-                joined(expression_size(e), 2)
+                capped_sum(expression_size(e), 2)
             }
         }
         PlainKind::Print(list) => size_of_print(&list.first),
@@ -118,7 +118,7 @@ pub fn size_of_single(item: &LineItem) -> u32
     ensures { result ≡ counted (single_size (item_tree item.now)) }
 {
     match kind_of(item) {
-        LineKind::Alone(plain) => joined(1, size_of_plain(plain)),
+        LineKind::Alone(plain) => capped_sum(1, size_of_plain(plain)),
         LineKind::Remark => 1,
         _ => 0,
     }
@@ -138,7 +138,7 @@ pub fn size_of_closing(alloc: Global, item: &LineItem) -> Result<u32, AllocError
     ensures { IfOk result (λ size. size ≡ counted (closing_size (item_tree item.now))) }
 {
     match kind_of(item) {
-        LineKind::Loop(loopc) => Ok(joined(1, size_of_loopc(alloc, loopc)?)),
+        LineKind::Loop(loopc) => Ok(capped_sum(1, size_of_loopc(alloc, loopc)?)),
         LineKind::End => Ok(2),
         _ => Ok(0),
     }
@@ -242,7 +242,7 @@ fn lay_stmts(
         let at = further(from, size);
         put_label(layout, Target::Line(next.first_line().number()), at)?;
         let own = lay_stmt(alloc, layout, at, next)?;
-        size = joined(size, own);
+        size = capped_sum(size, own);
     }
     Ok(size)
 }
@@ -279,7 +279,7 @@ fn lay_sections(
         left -= 1;
         let at = further(from, size);
         let own = lay_section(alloc, layout, at, section, left == 0, end, going)?;
-        size = joined(size, own);
+        size = capped_sum(size, own);
         going = continues(going, &section.head.item);
     }
     Ok(size)
@@ -345,10 +345,10 @@ fn lay_test(
 ) -> Result<u32, AllocError>
     ensures { IfOk result (λ size. Laid layout.old layout.new from size (1 + (cond_size (cond_tree c.now) + (block_size (block_tree body.now) + part_end_size last))) (counted (block_size (block_tree body.now)) ∷ block_list (block_tree body.now)) (block_labels (block_tree body.now) (suc from + cond_size (cond_tree c.now)))) }
 {
-    let head = joined(1, condition_size(alloc, c)?);
+    let head = capped_sum(1, condition_size(alloc, c)?);
     let block = lay_listed(alloc, layout, further(from, head), body)?;
-    let front = joined(head, block);
-    Ok(joined(front, size_of_part_end(last)))
+    let front = capped_sum(head, block);
+    Ok(capped_sum(front, size_of_part_end(last)))
 }
 
 // The mark, the condition, the block, the line that closes it, and the jump back.
@@ -367,12 +367,12 @@ fn lay_do(
     let index = layout.labels.len();
     put_label(layout, Target::End(number), 0)?;
     put_label(layout, Target::Turn(number), from)?;
-    let head = joined(1, size_of_loopc(alloc, loopc)?);
+    let head = capped_sum(1, size_of_loopc(alloc, loopc)?);
     let block = lay_listed(alloc, layout, further(from, head), body)?;
-    let front = joined(head, block);
+    let front = capped_sum(head, block);
     lay_closing(layout, further(from, front), end)?;
-    let closed = joined(front, size_of_closing(alloc, &end.item)?);
-    let size = joined(closed, 1);
+    let closed = capped_sum(front, size_of_closing(alloc, &end.item)?);
+    let size = capped_sum(closed, 1);
     end_label(layout, index, number, further(from, size));
     Ok(size)
 }

@@ -10,6 +10,3 @@ mod program;
 mod targets;
 
 pub use program::generate;
-
-#[cfg(test)]
-mod tests;

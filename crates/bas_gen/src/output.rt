@@ -10,7 +10,7 @@ use bas_genexpr::{CODE_LIMIT, Code, Sizes};
 use std::alloc::AllocError;
 
 /// Code and lines, and the sizes that are still to be read.
-#[derive(Debug, Drop)]
+#[derive(Drop)]
 pub struct Output {
     pub code: Code,
     pub lines: Vec<LineEntry>,

@@ -21,7 +21,7 @@ use crate::targets::{Targets, targets_of};
 use bas_ast::Program;
 use bas_base::Seq;
 use bas_code::{BodyKind, Proc};
-use bas_genexpr::{CODE_LIMIT, Code, GenFault, Sizes, Slots, joined};
+use bas_genexpr::{CODE_LIMIT, Code, GenFault, Sizes, Slots, capped_sum};
 use std::alloc::{AllocError, Global};
 
 // Sizes and targets, where the program is not too large.
@@ -34,7 +34,7 @@ fn lay_out(alloc: Global, program: &Program) -> Result<Layout, GenFault>
     };
     let block = lay_block(alloc, &mut layout, 0, &program.body)?;
     lay_closing(&mut layout, block, &program.end)?;
-    let size = joined(block, size_of_closing(alloc, &program.end.item)?);
+    let size = capped_sum(block, size_of_closing(alloc, &program.end.item)?);
     if size > CODE_LIMIT {
         return Err(GenFault::TooLarge {
             size: CODE_LIMIT + 1,

@@ -11,7 +11,7 @@ use std::alloc::{AllocError, Global};
 use std::collections::BTreeMap;
 
 /// The address of each line, of the end of each loop, and of its next turn.
-#[derive(Debug, Drop)]
+#[derive(Drop)]
 pub struct Targets {
     pub lines: BTreeMap<u32, u16>,
     pub ends: BTreeMap<u32, u16>,

@@ -20,6 +20,8 @@ impl Model for Code {
     ghost view = { λ code. code.items.items };
 }
 
+// The contracts see an instruction with the number that a `PushInstr` may hold, and the check looks
+// that kind up only where a body names it. So each function has a `_named`, which nothing reads.
 impl Code {
     /// No instructions.
     pub fn new(alloc: Global) -> Code
@@ -43,7 +45,6 @@ impl Code {
     pub fn push(&mut self, instr: Instr) -> Result<(), AllocError>
         ensures { OnOk result (self.new ≡ self.old ++ instr ∷ []) }
     {
-        // The check has to meet the kinds that hold a number by name.
         let _named: Option<PushInstr> = None;
         self.items.push(instr)?;
         Ok(())

@@ -1,4 +1,4 @@
-//! The code of conditions: a jump where the condition has the wanted truth, and on behind it else.
+//! The code of conditions: a jump if the condition has the given truth value, and otherwise it continues.
 
 ghost use Rattle.std.specs.Prelude.{◌≡◌, ◌+◌, ◌≤◌, ◌∷◌, [], ◌++◌, length, OnOk};
 ghost use Rattle.bas_ast.specs.ConditionTree.{
@@ -79,14 +79,14 @@ fn pick(last: bool, whole: Aim, other: Aim) -> Aim
     if last { whole } else { other }
 }
 
-// The one address where the truth is the wanted one, else the other.
+// The first address if the truth values are equal, otherwise the second.
 fn address(truth: bool, one: u16, other: u16) -> u16
     ensures { result ≡ chosen truth one other }
 {
     if truth { one } else { other }
 }
 
-// The address behind code of that size, at most the limit.
+// The address after code of that size, at most the limit.
 fn end_of(code: &Code, size: u32) -> u16
     ensures { length code.now + size ≤ code_limit → result ≡ length code.now + size }
 {
@@ -94,8 +94,8 @@ fn end_of(code: &Code, size: u32) -> u16
     (from + size.min(CODE_LIMIT)).min(CODE_LIMIT) as u16
 }
 
-/// Appends the code of a condition, which jumps to the aim's address where its truth is the wanted
-/// one, and goes on behind its code else.
+/// Appends the code of a condition, which jumps to the aim's address if the condition has the aim's truth
+/// value, and otherwise continues after its code.
 pub fn put_condition(
     alloc: Global,
     code: &mut Code,
@@ -112,7 +112,7 @@ pub fn put_condition(
     put_cond(code, slots, &mut sizes, c, aim)
 }
 
-// Appends the code of a condition, whose sizes stand ahead, and takes them off.
+// Appends the code of a condition, whose sizes are the next in the list, and takes them from it.
 #[cycle(jumps)]
 fn put_cond(
     code: &mut Code,

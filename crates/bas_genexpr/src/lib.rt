@@ -20,9 +20,6 @@ pub use expression::{place, put_expression};
 pub use fault::GenFault;
 pub use listing::condition_size;
 pub use names::{number_condition, number_expression};
-pub use size::{CODE_LIMIT, expression_size, joined};
+pub use size::{CODE_LIMIT, capped_sum, expression_size};
 pub use sizes::Sizes;
 pub use slots::{SLOT_LIMIT, Slots};
-
-#[cfg(test)]
-mod tests;

@@ -19,7 +19,7 @@ ghost use Rattle.bas_genexpr.specs.Sizes.{
   Sized,
 };
 
-use crate::size::{expression_size, joined};
+use crate::size::{capped_sum, expression_size};
 use bas_ast::{Cond, Conj, Test};
 use std::alloc::{AllocError, Global};
 
@@ -40,7 +40,7 @@ pub(crate) fn list_cond(sizes: &mut Vec<u32>, c: &Cond) -> Result<u32, AllocErro
     sizes.push(0)?;
     let first = list_conj(sizes, &c.first)?;
     let rest = list_conjs(sizes, c.rest.as_slice())?;
-    let size = joined(first, rest);
+    let size = capped_sum(first, rest);
     sizes[at] = size;
     Ok(size)
 }
@@ -51,7 +51,7 @@ fn list_conjs(sizes: &mut Vec<u32>, rest: &[Conj]) -> Result<u32, AllocError>
 {
     let mut size = 0;
     for next in rest {
-        size = joined(size, list_conj(sizes, next)?);
+        size = capped_sum(size, list_conj(sizes, next)?);
     }
     Ok(size)
 }
@@ -64,7 +64,7 @@ fn list_conj(sizes: &mut Vec<u32>, conj: &Conj) -> Result<u32, AllocError>
     sizes.push(0)?;
     let first = list_test(sizes, &conj.first)?;
     let rest = list_tests(sizes, conj.rest.as_slice())?;
-    let size = joined(first, rest);
+    let size = capped_sum(first, rest);
     sizes[at] = size;
     Ok(size)
 }
@@ -75,7 +75,7 @@ fn list_tests(sizes: &mut Vec<u32>, rest: &[Test]) -> Result<u32, AllocError>
 {
     let mut size = 0;
     for next in rest {
-        size = joined(size, list_test(sizes, next)?);
+        size = capped_sum(size, list_test(sizes, next)?);
     }
     Ok(size)
 }
@@ -88,8 +88,8 @@ fn list_test(sizes: &mut Vec<u32>, test: &Test) -> Result<u32, AllocError>
         Test::Not(inner) => list_test(sizes, inner.get()),
         Test::Group(inner) => list_cond(sizes, inner.get()),
         Test::Compare(left, _, right) => {
-            let operands = joined(expression_size(left), expression_size(right));
-            Ok(joined(operands, 2))
+            let operands = capped_sum(expression_size(left), expression_size(right));
+            Ok(capped_sum(operands, 2))
         }
     }
 }

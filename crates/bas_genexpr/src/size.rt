@@ -31,13 +31,11 @@ use bas_ast::{Expr, Factor, FactorSign, Primary, Sign, Term, TermSign};
 /// How many instructions a body may have.
 pub const CODE_LIMIT: u32 = 65_535;
 
-/// The size of two pieces, from their sizes.
-pub fn joined(first: u32, second: u32) -> u32
-    requires first { first ≤ 65536 }
-    requires second { second ≤ 65536 }
+/// The sum of two sizes, or one more than a body may have where it is above that.
+pub fn capped_sum(first: u32, second: u32) -> u32
     ensures { result ≡ counted (first + second) }
 {
-    (first + second).min(CODE_LIMIT + 1)
+    first.saturating_add(second).min(CODE_LIMIT + 1)
 }
 
 fn size_of_sign(sign: Option<Sign>) -> u32
@@ -66,8 +64,8 @@ pub fn expression_size(e: &Expr) -> u32
     ensures { result ≡ counted (expr_size (expr_tree e.now)) }
 {
     let first = size_of_term(e.first.get());
-    let front = joined(first, size_of_sign(e.sign));
-    joined(front, size_of_terms(e.rest.as_slice()))
+    let front = capped_sum(first, size_of_sign(e.sign));
+    capped_sum(front, size_of_terms(e.rest.as_slice()))
 }
 
 #[cycle(sizes)]
@@ -76,8 +74,8 @@ fn size_of_terms(rest: &[(TermSign, Term)]) -> u32
 {
     let mut size = 0;
     for (sign, next) in rest {
-        let front = joined(size, size_of_term(next));
-        size = joined(front, size_of_term_sign(*sign));
+        let front = capped_sum(size, size_of_term(next));
+        size = capped_sum(front, size_of_term_sign(*sign));
     }
     size
 }
@@ -87,7 +85,7 @@ fn size_of_term(term: &Term) -> u32
     ensures { result ≡ counted (term_size (term_tree term.now)) }
 {
     let first = size_of_factor(&term.first);
-    joined(first, size_of_factors(term.rest.as_slice()))
+    capped_sum(first, size_of_factors(term.rest.as_slice()))
 }
 
 #[cycle(sizes)]
@@ -96,8 +94,8 @@ fn size_of_factors(rest: &[(FactorSign, Factor)]) -> u32
 {
     let mut size = 0;
     for (_, next) in rest {
-        let front = joined(size, size_of_factor(next));
-        size = joined(front, 1);
+        let front = capped_sum(size, size_of_factor(next));
+        size = capped_sum(front, 1);
     }
     size
 }
@@ -107,7 +105,7 @@ fn size_of_factor(factor: &Factor) -> u32
     ensures { result ≡ counted (factor_size (factor_tree factor.now)) }
 {
     let base = size_of_primary(&factor.base);
-    joined(base, size_of_exponents(factor.exponents.as_slice()))
+    capped_sum(base, size_of_exponents(factor.exponents.as_slice()))
 }
 
 #[cycle(sizes)]
@@ -116,8 +114,8 @@ fn size_of_exponents(exponents: &[Primary]) -> u32
 {
     let mut size = 0;
     for next in exponents {
-        let front = joined(size, size_of_primary(next));
-        size = joined(front, 1);
+        let front = capped_sum(size, size_of_primary(next));
+        size = capped_sum(front, 1);
     }
     size
 }

@@ -5,7 +5,7 @@ ghost use Rattle.bas_genexpr.specs.Sizes.{IsNext};
 
 use std::marker::Model;
 
-/// Sizes that are read from the first to the last: contracts see those ahead.
+/// Sizes that are read from the first to the last: contracts see those that are not read yet.
 #[derive(Debug, Drop)]
 pub struct Sizes {
     listed: Vec<u32>,
@@ -21,14 +21,14 @@ impl Model for Sizes {
 }
 
 impl Sizes {
-    /// All of these are ahead.
+    /// None of these is read yet.
     pub fn of(listed: Vec<u32>) -> Sizes
         ensures { result ≡ listed.items }
     {
         Sizes { listed, read: 0 }
     }
 
-    /// The next size, or 0 where none is ahead.
+    /// The next size, or 0 if there is none.
     pub fn next(&mut self) -> u32
         ensures { IsNext self.old result self.new }
     {

@@ -44,9 +44,9 @@ lay_section-returns-in-Other t c = rw section_out (other_laid c.args.going _ c.a
 
 pub lay_do-returns : goal.lay_do-returns
 lay_do-returns t c =
-    do_laid c.args.layout.now c.put_label.new.layout c.put_label-2.new.layout c.lay_listed.new.layout c.lay_closing.new.layout c.end_label.new.layout c.len-index.result c.args.from _ c.joined-head.result c.further.result c.in_ok-block.block c.joined-front.result c.further-2.result _ c.joined-closed.result c.joined-size.result c.further-3.result c.args.number c.args.end.now.line
+    do_laid c.args.layout.now c.put_label.new.layout c.put_label-2.new.layout c.lay_listed.new.layout c.lay_closing.new.layout c.end_label.new.layout c.len-index.result c.args.from _ c.capped_sum-head.result c.further.result c.in_ok-block.block c.capped_sum-front.result c.further-2.result _ c.capped_sum-closed.result c.capped_sum-size.result c.further-3.result c.args.number c.args.end.now.line
     (loopc_size (option_map loopc_tree c.args.loopc.now)) (block_size (block_tree c.args.body.now)) (closing_size (item_tree c.args.end.now.item)) _ (λ at. block_labels (block_tree c.args.body.now) at) (λ at. closing_labels c.args.end.now.line (item_tree c.args.end.now.item) at)
-    (c.len-index.ensures ∙ c.args.layout.now.labels.ok.0) c.in_ok-put_label.ensures c.in_ok-put_label-2.ensures c.in_ok-size_of_loopc.ensures c.joined-head.ensures c.further.ensures c.in_ok-block.ensures c.joined-front.ensures c.further-2.ensures c.in_ok-lay_closing.ensures c.in_ok-size_of_closing.ensures c.joined-closed.ensures c.joined-size.ensures c.further-3.ensures c.end_label.ensures.sizes c.end_label.ensures.labels
+    (c.len-index.ensures ∙ c.args.layout.now.labels.ok.0) c.in_ok-put_label.ensures c.in_ok-put_label-2.ensures c.in_ok-size_of_loopc.ensures c.capped_sum-head.ensures c.further.ensures c.in_ok-block.ensures c.capped_sum-front.ensures c.further-2.ensures c.in_ok-lay_closing.ensures c.in_ok-size_of_closing.ensures c.capped_sum-closed.ensures c.capped_sum-size.ensures c.further-3.ensures c.end_label.ensures.sizes c.end_label.ensures.labels
 
 pub lay_stmt-returns-in-Single : goal.lay_stmt-returns-in-Single
 lay_stmt-returns-in-Single t c = line_laid c.args.stmt.now c.in-Single.line c.args.layout.now c.args.from _ c.in-Single.is c.size_of_single.ensures
@@ -60,11 +60,11 @@ lay_sections-loop-section-preserved t c =
     let left = turn c.args.sections.now i c.section-item.result c.loop-section-test.true c.section-item.is in
     record {
       count = omega arith;
-      state = sections_turn c.args.layout.now c.loop-section.layout c.lay_section.new.layout c.args.from c.loop-section.size _ c.further-at.result c.in_ok-own.own c.joined-size.result _ _ c.loop-section.going c.continues-going.result (sections_tree (drop i c.args.sections.now)) (section_tree c.section-item.result).0 (section_tree c.section-item.result).1 (sections_tree (drop (i + 1) c.args.sections.now)) (line_tree c.args.end.now) _ (ap sections_tree left) (last_of c.args.sections.now i _ (omega arith)) (c.continues-going.ensures ∙ ap (λ x. goes_on c.loop-section.going x.0.item) (sym (section_out c.section-item.result))) c.further-at.ensures c.in_ok-own.ensures c.joined-size.ensures c.loop-section.invariant.state;
+      state = sections_turn c.args.layout.now c.loop-section.layout c.lay_section.new.layout c.args.from c.loop-section.size _ c.further-at.result c.in_ok-own.own c.capped_sum-size.result _ _ c.loop-section.going c.continues-going.result (sections_tree (drop i c.args.sections.now)) (section_tree c.section-item.result).0 (section_tree c.section-item.result).1 (sections_tree (drop (i + 1) c.args.sections.now)) (line_tree c.args.end.now) _ (ap sections_tree left) (last_of c.args.sections.now i _ (omega arith)) (c.continues-going.ensures ∙ ap (λ x. goes_on c.loop-section.going x.0.item) (sym (section_out c.section-item.result))) c.further-at.ensures c.in_ok-own.ensures c.capped_sum-size.ensures c.loop-section.invariant.state;
     }
 
 pub lay_stmts-loop-next-preserved : goal.lay_stmts-loop-next-preserved
 lay_stmts-loop-next-preserved t c =
     let i = c.loop-next.next-index in
     let left = turn c.args.stmts.now i c.next-item.result c.loop-next-test.true c.next-item.is in
-    stmts_turn c.args.layout.now c.loop-next.layout c.put_label.new.layout c.lay_stmt.new.layout c.args.from c.loop-next.size _ c.further-at.result c.in_ok-own.own c.joined-size.result _ _ (stmts_tree (drop i c.args.stmts.now)) (stmt_tree c.next-item.result) (stmts_tree (drop (i + 1) c.args.stmts.now)) (ap stmts_tree left) c.further-at.ensures (rw (← (c.number.ensures.same ∙ c.first_line.ensures)) c.in_ok-put_label.ensures) c.in_ok-own.ensures c.joined-size.ensures c.loop-next.invariant
+    stmts_turn c.args.layout.now c.loop-next.layout c.put_label.new.layout c.lay_stmt.new.layout c.args.from c.loop-next.size _ c.further-at.result c.in_ok-own.own c.capped_sum-size.result _ _ (stmts_tree (drop i c.args.stmts.now)) (stmt_tree c.next-item.result) (stmts_tree (drop (i + 1) c.args.stmts.now)) (ap stmts_tree left) c.further-at.ensures (rw (← (c.number.ensures.same ∙ c.first_line.ensures)) c.in_ok-put_label.ensures) c.in_ok-own.ensures c.capped_sum-size.ensures c.loop-next.invariant

@@ -5,13 +5,13 @@ use Rattle.bas_genexpr.proofs.CountLemmas.{expr_counted, term_counted, factor_co
 use Rattle.bas_genexpr.proofs.size.+sizes.Goals as goal
 
 pub expression_size-returns : goal.expression_size-returns
-expression_size-returns t c = expr_counted c.args.e.now c.get.result.now c.as_slice.result.now c.size_of_term-first.result c.size_of_sign.result c.joined-front.result c.size_of_terms.result c.joined.result c.get.ensures c.as_slice.ensures c.size_of_term-first.ensures c.size_of_sign.ensures.same c.joined-front.ensures c.size_of_terms.ensures c.joined.ensures
+expression_size-returns t c = expr_counted c.args.e.now c.get.result.now c.as_slice.result.now c.size_of_term-first.result c.size_of_sign.result c.capped_sum-front.result c.size_of_terms.result c.capped_sum.result c.get.ensures c.as_slice.ensures c.size_of_term-first.ensures c.size_of_sign.ensures.same c.capped_sum-front.ensures c.size_of_terms.ensures c.capped_sum.ensures
 
 pub size_of_factor-returns : goal.size_of_factor-returns
-size_of_factor-returns t c = factor_counted c.args.factor.now c.as_slice.result.now c.size_of_primary-base.result c.size_of_exponents.result c.joined.result c.as_slice.ensures c.size_of_primary-base.ensures c.size_of_exponents.ensures c.joined.ensures
+size_of_factor-returns t c = factor_counted c.args.factor.now c.as_slice.result.now c.size_of_primary-base.result c.size_of_exponents.result c.capped_sum.result c.as_slice.ensures c.size_of_primary-base.ensures c.size_of_exponents.ensures c.capped_sum.ensures
 
 pub size_of_term-returns : goal.size_of_term-returns
-size_of_term-returns t c = term_counted c.args.term.now c.as_slice.result.now c.size_of_factor-first.result c.size_of_factors.result c.joined.result c.as_slice.ensures c.size_of_factor-first.ensures c.size_of_factors.ensures c.joined.ensures
+size_of_term-returns t c = term_counted c.args.term.now c.as_slice.result.now c.size_of_factor-first.result c.size_of_factors.result c.capped_sum.result c.as_slice.ensures c.size_of_factor-first.ensures c.size_of_factors.ensures c.capped_sum.ensures
 
 pub size_of_primary-returns-in-Numeral : goal.size_of_primary-returns-in-Numeral
 size_of_primary-returns-in-Numeral t c = rw (c.in-Numeral.is, primary_numeral) refl
