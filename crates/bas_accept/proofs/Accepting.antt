@@ -8,8 +8,8 @@ use Rattle.bas_block.specs.Files.{units_of}
 use Rattle.bas_block.specs.declared.file.SourceFault.{SourceFault}
 use Rattle.bas_block.specs.declared.file.SourceFault.TheVariants.{Memory}
 use Rattle.bas_block.proofs.FileLaws.{files_are_read, all_files_are_read}
-use Rattle.bas_check.specs.Unbuilt.{unbuilt_line}
-use Rattle.bas_check.proofs.Telling.{tells_built}
+use Rattle.bas_unbuilt.specs.Unbuilt.{unbuilt_line}
+use Rattle.bas_unbuilt.proofs.Telling.{tells_built}
 use Rattle.bas_jump.specs.Faults.{jump_fault}
 use Rattle.bas_jump.specs.declared.line.JumpFault.{JumpFault}
 use Rattle.bas_jump.proofs.Telling.{tells_jumps}

@@ -8,7 +8,7 @@ use Rattle.bas_carry.specs.Tables.{Sound}
 use Rattle.bas_block.specs.Files.{IsFile, units_of}
 use Rattle.bas_block.specs.declared.file.SourceFault.{SourceFault}
 use Rattle.bas_block.specs.declared.file.SourceFault.TheVariants.{BadLine}
-use Rattle.bas_check.specs.Unbuilt.{unbuilt_line}
+use Rattle.bas_unbuilt.specs.Unbuilt.{unbuilt_line}
 use Rattle.bas_jump.specs.Faults.{jump_fault}
 use Rattle.bas_jump.specs.declared.line.JumpFault.{JumpFault}
 use Rattle.bas_accept.specs.declared.acceptance.Refusal.{Refusal}

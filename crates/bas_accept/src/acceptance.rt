@@ -20,8 +20,8 @@ ghost use Rattle.bas_accept.specs.declared.acceptance.Refusal.TheVariants.{Sourc
 use bas_ast::{Program, Unit};
 use bas_base::Line;
 use bas_block::{SourceFault, units_of};
-use bas_check::unbuilt_line;
 use bas_jump::jump_fault;
+use bas_unbuilt::unbuilt_line;
 use std::alloc::{AllocError, Global};
 
 /// Why a source file is refused.

@@ -7,8 +7,6 @@
 
 mod acceptance;
 mod law;
-#[cfg(test)]
-mod tests;
 
 pub use acceptance::{Refusal, accepted, first_program};
 pub use law::{accepted_law, sound_program_law};

@@ -74,7 +74,7 @@ abbrev mutual
   primary_size (Named name args) = 1
   primary_size _ = 0
 
--- T and H of a condition have one size
+-- both forms of a condition, jump unless and jump if, have the same size
 abbrev mutual
   -- a condition
   pub cond_size : Cond → ℕ
@@ -137,12 +137,12 @@ closing_size (OfPart (Loop loopc)) = 1 + loopc_size loopc
 closing_size (OfPart End) = 2
 closing_size _ = 0
 
--- the jump behind a part of a block IF, which the last one has not
+-- the jump after a part of a block IF; the last part has none
 abbrev pub part_end_size : Bool → ℕ
 part_end_size true = 0
 part_end_size false = 1
 
--- a section, from the sizes of its block and of the sections behind it
+-- a section, from the sizes of its block and of the sections after it
 abbrev pub section_size : LineItem → (close : LineItem) → (final : Bool) → (block rest : ℕ) → ℕ
 section_size (OfPart (If c)) close final block rest = 1 + (cond_size c + (block + (part_end_size final + rest)))
 section_size (OfPart (Elseif c)) close final block rest = 1 + (cond_size c + (block + (part_end_size final + rest)))
@@ -185,7 +185,7 @@ abbrev pub factor_sign_code : FactorSign → List Instr
 factor_sign_code Multiply = instr.Arith arith.Mul ∷ []
 factor_sign_code Divide = instr.Arith arith.Div ∷ []
 
--- the own slot of a variable; the first one for a variable that has none
+-- the slot of a variable; the first slot for one that has none
 abbrev pub index_or_first : Option ℕ → ℕ
 index_or_first None = 0
 index_or_first (Some k) = k
@@ -195,7 +195,7 @@ abbrev pub own_place : List world.Variable → world.Variable → Place
 own_place order x = record { space = Own; number = index_or_first (index_of order x) }
 
 module _ (order : List world.Variable) where
-  -- E of an expression
+  -- pushes the value of an expression
   abbrev mutual
     pub expr_code : Expr → List Instr
     expr_code (Sum sign first rest) = term_code first ++ (sign_code sign ++ terms_code rest)
@@ -234,59 +234,59 @@ module _ (order : List world.Variable) where
   abbrev pub fork_code : Expr → Rel → Expr → Instr → List Instr
   fork_code a rel b i = expr_code a ++ (expr_code b ++ (instr.Compare (compare.CompareNum (relation_of rel)) ∷ (i ∷ [])))
 
-  -- T (unless) and H (if) of a condition: from an address, with a jump to another one
+  -- a condition at an address, with a jump to another one unless it holds (unless) or if it holds (if)
   abbrev mutual
-    -- T of a condition
+    -- jumps unless the condition holds
     pub unless_code : Cond → (from a : ℕ) → List Instr
     unless_code (AnyOf first rest) from a = unless_any_code (unless_all_code first) (if_all_code first) (conj_size first) rest from (from + (conj_size first + conjs_size rest)) a
 
-    -- T of the first, which has these codes and that size, OR the rest; `to` is the end of the whole
+    -- jumps unless the first, with these codes and that size, or one of the rest holds; `to` is the end of the whole
     pub unless_any_code : (unless_first if_first : ℕ → ℕ → List Instr) → (size : ℕ) → Conjs → (from to a : ℕ) → List Instr
     unless_any_code unless_first if_first size NoConjs from to a = unless_first from a
     unless_any_code unless_first if_first size (MoreConjs next rest) from to a =
         if_first from to ++ unless_any_code (unless_all_code next) (if_all_code next) (conj_size next) rest (from + size) to a
 
-    -- H of a condition
+    -- jumps if the condition holds
     pub if_code : Cond → (from a : ℕ) → List Instr
     if_code (AnyOf first rest) from a = if_any_code (if_all_code first) (conj_size first) rest from a
 
-    -- H of the first OR the rest
+    -- jumps if the first or one of the rest holds
     pub if_any_code : (if_first : ℕ → ℕ → List Instr) → (size : ℕ) → Conjs → (from a : ℕ) → List Instr
     if_any_code if_first size NoConjs from a = if_first from a
     if_any_code if_first size (MoreConjs next rest) from a = if_first from a ++ if_any_code (if_all_code next) (conj_size next) rest (from + size) a
 
-    -- T of conditions joined by AND
+    -- jumps unless all of the conditions hold
     pub unless_all_code : Conj → (from a : ℕ) → List Instr
     unless_all_code (AllOf first rest) from a = unless_each_code (unless_test_code first) (test_size first) rest from a
 
-    -- T of the first AND the rest
+    -- jumps unless the first and all of the rest hold
     pub unless_each_code : (unless_first : ℕ → ℕ → List Instr) → (size : ℕ) → Tests → (from a : ℕ) → List Instr
     unless_each_code unless_first size NoTests from a = unless_first from a
     unless_each_code unless_first size (MoreTests next rest) from a = unless_first from a ++ unless_each_code (unless_test_code next) (test_size next) rest (from + size) a
 
-    -- H of conditions joined by AND
+    -- jumps if all of the conditions hold
     pub if_all_code : Conj → (from a : ℕ) → List Instr
     if_all_code (AllOf first rest) from a = if_each_code (unless_test_code first) (if_test_code first) (test_size first) rest from (from + (test_size first + tests_size rest)) a
 
-    -- H of the first AND the rest; `to` is the end of the whole
+    -- jumps if the first and all of the rest hold; `to` is the end of the whole
     pub if_each_code : (unless_first if_first : ℕ → ℕ → List Instr) → (size : ℕ) → Tests → (from to a : ℕ) → List Instr
     if_each_code unless_first if_first size NoTests from to a = if_first from a
     if_each_code unless_first if_first size (MoreTests next rest) from to a =
         unless_first from to ++ if_each_code (unless_test_code next) (if_test_code next) (test_size next) rest (from + size) to a
 
-    -- T of a test: NOT exchanges T and H
+    -- jumps unless the test holds; NOT exchanges the two forms
     pub unless_test_code : Test → (from a : ℕ) → List Instr
     unless_test_code (Not t) from a = if_test_code t from a
     unless_test_code (CondGroup c) from a = unless_code c from a
     unless_test_code (Compare x rel y) from a = fork_code x rel y (instr.Jump (jump.JumpFalse a))
 
-    -- H of a test
+    -- jumps if the test holds
     pub if_test_code : Test → (from a : ℕ) → List Instr
     if_test_code (Not t) from a = unless_test_code t from a
     if_test_code (CondGroup c) from a = if_code c from a
     if_test_code (Compare x rel y) from a = fork_code x rel y (instr.Jump (jump.JumpTrue a))
 
-  -- goes to a where a loop does not go on
+  -- jumps to a if the loop ends
   abbrev pub loopc_code : Option Loopc → (from a : ℕ) → List Instr
   loopc_code None from a = []
   loopc_code (Some (While c)) from a = unless_code c from a
@@ -303,7 +303,7 @@ module _ (order : List world.Variable) where
   print_code _ = instr.Print (print.PrintEnd TERMINAL) ∷ []
 
   module _ (addr : Target → ℕ) where
-    -- behind the innermost DO; without one no EXIT DO stands there
+    -- a jump to the end of the innermost DO; outside of any DO there is no EXIT DO
     abbrev pub exit_code : Option ℕ → List Instr
     exit_code None = instr.Jump (jump.Jump 0) ∷ []
     exit_code (Some l) = instr.Jump (jump.Jump (addr (EndOf l))) ∷ []
@@ -329,12 +329,12 @@ module _ (order : List world.Variable) where
     closing_code opener l (OfPart End) from = instr.Mark l ∷ (instr.Run run.End ∷ [])
     closing_code opener l _ from = []
 
-    -- the jump behind a part of a block IF
+    -- the jump after a part of a block IF
     abbrev pub part_end_code : Bool → (finish : ℕ) → List Instr
     part_end_code true finish = []
     part_end_code false finish = instr.Jump (jump.Jump finish) ∷ []
 
-    -- a section, from the codes of its block and of the sections behind it; `finish` is the end of the construct
+    -- a section, from the codes of its block and of the sections after it; `finish` is the end of the construct
     abbrev pub if_section_code : (l : ℕ) → Cond → (final : Bool) → (size : ℕ) → (block rest : ℕ → List Instr) → (from finish : ℕ) → List Instr
     if_section_code l c final size block rest from finish =
         instr.Mark l ∷ (unless_code c (suc from) (suc from + (cond_size c + (size + part_end_size final)))

@@ -21,7 +21,7 @@ abbrev pub BlockCode : Type 1
 BlockCode = Static → Closing → ℕ → ℕ → Type 0
 
 module _ (text : Text) where
-  -- behind a part of a block IF: a jump to its end, and none behind the last part
+  -- after a part of a block IF: a jump to its end, and none after the last part
   abbrev pub PartEndAt : Bool → (last other to : ℕ) → Type 0
   PartEndAt true last other to = last ≡ other
   PartEndAt false last other to = At text last (instr.Jump (Jump to)) × (suc last ≡ other)
@@ -63,7 +63,7 @@ module _ (text : Text) where
           DoSectionAt head.line loopc (Code (looped head.line (in_do head.line st.around) st) (ClosedBy head.line close)) from to
       section_of _ from to = NotBuiltAt text from to
 
-  -- LOOP: its range has the jump back, too, and CONTINUE goes on behind it
+  -- LOOP: its range includes the jump back, and CONTINUE continues after it
   pub record LoopLineAt (st : Static) (opener l : ℕ) (loopc : Option Loopc) (from to : ℕ) : Type 0 where
     pub here : text.addr (LineOf l) ≡ from
     pub mark : At text from (instr.Mark l)
@@ -89,7 +89,7 @@ module _ (text : Text) where
       closing_of Bare from to = from ≡ to
       closing_of (ClosedBy opener close) from to = item_of opener close.line close.item from to
 
-  -- a line alone, of which a remark is the mark; CONTINUE goes on at the next line
+  -- a line alone; a remark is its mark and nothing else; CONTINUE continues at the next line
   abbrev pub SingleAt : Static → NumLine → ℕ → ℕ → Type 0
   SingleAt st head = item_of head.item
     where

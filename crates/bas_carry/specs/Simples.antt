@@ -29,7 +29,7 @@ module _ (text : Text) where
       ThenAt text (ExprAt text e) (ThenAt text (OneAt text (instr.Print (PrintNum TERMINAL))) (OneAt text (instr.Print (PrintEnd TERMINAL)))) from to
   PrintAt _ _ from to = NotBuiltAt text from to
 
-  -- EXIT DO: a jump behind the innermost DO
+  -- EXIT DO: a jump to the end of the innermost DO
   abbrev pub ExitAt : Static → Option ℕ → ℕ → ℕ → Type 0
   ExitAt st None from to = ⊥
   ExitAt st (Some l) from to = JumpAt text (st.drops (EndOf l)) (EndOf l) from to

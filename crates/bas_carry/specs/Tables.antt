@@ -1,5 +1,5 @@
 -- The line table of a program, and the address of each target, as functions. The address of a
--- target is the one that stands with it in the list of all targets.
+-- target is the one paired with it in the list of all targets.
 use Rattle.std.specs.Prelude.{◌≡◌, ℕ, suc, ◌+◌, Bool, true, false, ◌&&◌, List, [], ◌∷◌, ◌++◌, length, Option, Some, nat_eq, nat_lt, slice_get, if◌then◌else◌}
 use Rattle.bas_ast.specs.Tree.{Cond, Loopc, Alone, If, Elseif, Else, Do, Loop, End, LineItem, Nothing, Rem, OfSimple, OfPart, NumLine, Stmt, Single, Nest, Sections, NoSections, MoreSections, Block, NoStmts, MoreStmts, Program, SourceUnit}
 use Rattle.bas_mean.specs.Outcome.{Target, LineOf, EndOf, TurnOf}
@@ -21,25 +21,25 @@ entry l start end next = record { line = l; start = start; end = end; next = nex
 
 -- the line table
 
--- a line alone: CONTINUE goes on behind it
+-- a line alone: CONTINUE continues after it
 abbrev pub single_rows : (l : ℕ) → LineItem → (from : ℕ) → List LineEntry
 single_rows l Nothing from = entry l from (suc from) (suc from) ∷ []
 single_rows l (Rem bytes) from = entry l from (suc from) (suc from) ∷ []
 single_rows l (OfSimple (Alone plain)) from = entry l from (from + single_size (OfSimple (Alone plain))) (from + single_size (OfSimple (Alone plain))) ∷ []
 single_rows l _ from = []
 
--- the line that closes a block; `behind` is the address behind its construct
+-- the line that closes a block; `behind` is the address after its construct
 abbrev pub closing_rows : (l : ℕ) → LineItem → (from behind : ℕ) → List LineEntry
 closing_rows l (OfPart (Loop loopc)) from behind = entry l from (suc (from + closing_size (OfPart (Loop loopc)))) behind ∷ []
 closing_rows l (OfPart End) from behind = entry l from (from + 2) from ∷ []
 closing_rows l _ from behind = []
 
--- IF and ELSEIF: CONTINUE goes on behind the construct
+-- IF and ELSEIF: CONTINUE continues after the construct
 abbrev pub if_section_rows : (l : ℕ) → Cond → (final : Bool) → (size : ℕ) → (block rest : ℕ → List LineEntry) → (from finish : ℕ) → List LineEntry
 if_section_rows l c final size block rest from finish =
     entry l from (suc from + cond_size c) finish ∷ (block (suc from + cond_size c) ++ rest (suc from + (cond_size c + (size + part_end_size final))))
 
--- DO: CONTINUE goes on behind the loop
+-- DO: CONTINUE continues after the loop
 abbrev pub do_section_rows : (l : ℕ) → Option Loopc → (close : NumLine) → (size : ℕ) → (block : ℕ → List LineEntry) → (from finish : ℕ) → List LineEntry
 do_section_rows l loopc close size block from finish =
     entry l from (suc from + loopc_size loopc) finish ∷ (block (suc from + loopc_size loopc) ++ closing_rows close.line close.item (suc from + (loopc_size loopc + size)) finish)
@@ -69,7 +69,7 @@ abbrev mutual
   block_rows NoStmts from = []
   block_rows (MoreStmts s rest) from = stmt_rows s from ++ block_rows rest (from + stmt_size s)
 
--- a program: END goes on at its own start
+-- a program: CONTINUE at END continues at END
 abbrev pub program_rows : Program → List LineEntry
 program_rows p = block_rows p.body 0 ++ closing_rows p.close.line p.close.item (block_size p.body) 0
 
@@ -129,7 +129,7 @@ same_target (EndOf l) (TurnOf m) = false
 same_target (TurnOf l) (LineOf m) = false
 same_target (TurnOf l) (EndOf m) = false
 
--- the address that stands with a target; 0 where none does
+-- the address paired with a target; 0 if there is none
 abbrev pub address_in : Labels → Target → ℕ
 address_in [] t = 0
 address_in (label ∷ labels) t = if same_target t label.0 then label.1 else address_in labels t

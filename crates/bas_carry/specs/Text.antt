@@ -1,4 +1,4 @@
--- What stands at an address of a body's code.
+-- Which code is at an address of a body.
 use Rattle.std.specs.Prelude.{◌≡◌, ℕ, suc, zero, ◌<◌, ◌≤◌, List, Option, Some, None, slice_get}
 use Rattle.bas_ast.specs.Tree.{Block}
 use Rattle.bas_mean.specs.World.{Variable}
@@ -12,8 +12,8 @@ use Rattle.bas_code.specs.declared.instr.JumpInstr.TheVariants.{Jump}
 use Rattle.bas_code.specs.declared.body.Proc.{Proc}
 use Rattle.bas_code.specs.Guards.{entry_at}
 
--- a body of an image, as the code of a text: its unit, the place of each variable, and the address
--- at which each target stands
+-- a body of an image, as the code of a program's text: its unit, the place of each variable, and the address
+-- of each target
 pub record Text : Type 0 where
   pub body : ℕ
   pub proc : Proc
@@ -42,7 +42,7 @@ near_hit Past d = Some 0
 near_hit Round d = Some 0
 near_hit Elsewhere d = d
 
--- inside the loop that line l opens, with what then stands around
+-- inside the loop that line l opens, with the loops that are then around
 abbrev pub looped : ℕ → Around → Static → Static
 looped l around st = record { around = around; drops = λ t. near_hit (hit t l) (st.drops t) }
 
@@ -60,7 +60,7 @@ module _ (text : Text) where
     pub at : At from i
     pub end : suc from ≡ to
 
-  -- one piece of code, and another behind it
+  -- one piece of code, and another after it
   pub record ThenAt (A B : ℕ → ℕ → Type 0) (from to : ℕ) : Type 0 where
     pub middle : ℕ
     pub first : A from middle
@@ -73,7 +73,7 @@ module _ (text : Text) where
     pub at : At from (i place)
     pub end : suc from ≡ to
 
-  -- nothing is the code of a construct that is not built
+  -- no code is that of a construct that is not built
   abbrev pub NotBuiltAt : ℕ → ℕ → Type 0
   NotBuiltAt from to = ⊥
 

@@ -32,7 +32,7 @@ use Rattle.bas_code.specs.declared.body.Image.{Image}
 use Rattle.bas_code.specs.State.{Spot, Frame, MachineWorld, Operand, ANumber, AText, ATruth, ASpot, Activation, Waiting, AtGosub, AtCall, State, Run, Over, spot_of, entered, empty_memory, depth_of}
 use Rattle.bas_code.specs.Guards.{Tag, handlers_at, entry_at}
 
--- what stands on top of the stack
+-- the top of the stack
 
 -- pops a number
 abbrev pub on_number : List Operand → (Number → List Operand → State) → State
@@ -63,7 +63,7 @@ abbrev pub on_spots : ℕ → List Operand → List Spot → (List Spot → List
 on_spots zero stack spots go = go spots stack
 on_spots (suc k) stack spots go = on_spot stack (λ m rest. on_spots k rest (m ∷ spots) go)
 
--- goes on with what is there; without it the run is lost
+-- continues with what is there; without it the run is lost
 abbrev pub with_some : {A : Type 0} → Option A → (A → State) → State
 with_some None go = Over Lost
 with_some (Some a) go = go a
@@ -76,8 +76,8 @@ cell_of m w = slice_get w.cells.cells m.cell
 abbrev pub with_number_at : Spot → Cell → Number → MachineWorld → MachineWorld
 with_number_at m c x w = with_cells (record { cells = slice_set w.cells.cells m.cell (record c { number = x }); frame = w.cells.frame }) w
 
--- starts the first handler of a list for an exception at a line; without one goes on with `nobody`,
--- and with `deep` where one more would be too deep
+-- starts the first handler of a list for an exception at a line; without one continues with `nobody`,
+-- and with `deep` if one more activation would be too deep
 abbrev pub started : (body : ℕ) → Exception → LineEntry → List Tag → List Activation → List Waiting → (nobody deep : MachineWorld → State) → MachineWorld → State
 started body x entry [] acts callers nobody deep w = nobody w
 started body x entry (t ∷ tags) acts callers nobody deep w =

@@ -1,4 +1,4 @@
--- What the words ask for, and the answer to that where nothing outside fails.
+-- What a command line asks for, and the answer to it if nothing outside fails.
 use Rattle.std.specs.Prelude.{◌≡◌, ℕ, suc, ◌&&◌, nat_le, nat_lt, nat_eq, if◌then◌else◌, List, [], ◌∷◌, length, codes, Option, Some, None, Result, Ok, Err, Bool, MatchBool}
 use Rattle.std.specs.List.{list_all, ends_with}
 use Rattle.std.specs.Char.{is_ascii_digit}
@@ -42,11 +42,11 @@ is_source_name name = is_file_name name && (nat_le (length name) WORD_NAME_BYTES
 abbrev pub is_line_count : List ℕ → Bool
 is_line_count word = nat_le 1 (length word) && (nat_le (length word) LINES_DIGITS && list_all is_ascii_digit word)
 
--- the number of lines that a word tells
+-- the number of lines that a word gives
 abbrev pub line_count_of : List ℕ → Option ℕ
 line_count_of word = if is_line_count word then Some (spelled word) else None
 
--- the number of lines that an option and its value tell
+-- the number of lines that an option and its value give
 abbrev pub lines_of : (option value : List ℕ) → Option ℕ
 lines_of option value = if same_text option (codes "--lines") then line_count_of value else None
 
@@ -55,7 +55,7 @@ abbrev pub go_of : (verb name : List ℕ) → Option ℕ → Option Command
 go_of verb name None = None
 go_of verb name (Some lines) = if same_text verb (codes "go") && is_source_name name then Some (Go name lines) else None
 
--- the command that the words are, or None: `go` and a name, perhaps with `--lines` and a number behind them
+-- the command that a command line is, or None: `go` and a name, perhaps followed by `--lines` and a number
 abbrev pub command_of : List (List ℕ) → Option Command
 command_of (verb ∷ name ∷ []) = go_of verb name (Some DEFAULT_LINES)
 command_of (verb ∷ name ∷ option ∷ value ∷ []) = go_of verb name (lines_of option value)
@@ -111,14 +111,14 @@ command_answer (Some (Go name lines)) files input = file_answer name lines input
 abbrev pub answer_of : List (List ℕ) → Files → (input : List ℕ) → Outcome
 answer_of words files input = command_answer (command_of words) files input
 
--- ---- what the words can come to
+-- ---- how a command line can end
 
 -- an ending that `go` can have for a file: that for some content and some input, or a failure
 abbrev pub FileEnding : (name : List ℕ) → (lines : ℕ) → Ending → Type 0
 FileEnding name lines ending =
     MatchBool (is_failure ending) (Unit {0}) ((content : Option (List ℕ)) × (input : List ℕ) × (ending ≡ (file_answer name lines input content).ending))
 
--- an ending that the words can have: Usage where they are no command, and else one of their file
+-- an ending that a command line can have: Usage if it is not valid, otherwise one for its file
 abbrev pub CanEnd : Option Command → Ending → Type 0
 CanEnd None ending = ending ≡ Usage
 CanEnd (Some (Go name lines)) ending = FileEnding name lines ending

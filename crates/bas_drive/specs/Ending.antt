@@ -63,7 +63,7 @@ is_store_fault (ends.Refused name refusal) = false
 is_store_fault (ends.FileTooLarge name size) = false
 is_store_fault (ends.UnitTooLarge unit size limit) = false
 
--- what a command comes to: the outcome's ending with all of its output, where the run itself reports
+-- how a command ends: with the outcome's ending and all of its output, if the run itself reports
 -- nothing; or a failure with some of the output
 abbrev pub RunOf : Outcome → Option (List ℕ) → Option (List ℕ) → Ending → Type 0
 RunOf outcome before now ending =

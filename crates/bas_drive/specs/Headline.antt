@@ -60,7 +60,7 @@ is_report_fault FileMissing = false
 is_report_fault ReportFault = true
 is_report_fault TooLarge = false
 
--- an ending was told with its whole line, or some of the line and no more, for want of memory or by a fault of the report
+-- an ending was reported with its whole line, or with a prefix of it because memory ran out or the report failed
 pub data IsTold (ending : Ending) (before now : Option (List ℕ)) : Status → Type 0 where
   Whole : TookAll before now (report_of ending) → IsTold ending before now (status_of ending)
   CutByFault : TookPrefix before now (report_of ending) → IsTold ending before now ReportFault
@@ -73,25 +73,25 @@ pub record IsAnswered (answer : Outcome) (out_before out_now report_before repor
   pub output : TookAll out_before out_now answer.output
   pub report : TookAll report_before report_now (answer.report ++ report_of answer.ending)
 
--- the whole answer was given, or the command gave up with some of the output taken, from the front
+-- the whole answer was given, or the command gave up after a prefix of the output
 abbrev pub AnswersOrGivesUp : Outcome → Option (List ℕ) → Option (List ℕ) → Option (List ℕ) → Option (List ℕ) → Status → Type 0
 AnswersOrGivesUp answer out_before out_now report_before report_now status =
     MatchBool (gave_up status) (TookPrefix out_before out_now answer.output) (IsAnswered answer out_before out_now report_before report_now status)
 
--- the answer tells of that fault, or the report failed as well, or there was no memory
+-- the answer is that fault, or the report failed too, or there was no memory
 abbrev pub tells_fault : Status → Status → Bool
 tells_fault fault answer = code_of answer == code_of fault || (is_report_fault answer || is_memory answer)
   where
     is_memory : Status → Bool
     is_memory status = code_of status == 10
 
--- some of one report line was taken, from the front: a line that the words can have
+-- the report took a prefix of one line: one that the command line can have
 pub record TookReportPrefix (words : List (List ℕ)) (before now : Option (List ℕ)) : Type 0 where
   pub ending : Ending
   pub can : CanEnd (command_of words) ending
   pub some : TookPrefix before now (report_of ending)
 
--- some of one report line was taken, from the front: that of the answer, or of a fault of the store or the output
+-- the report took a prefix of one line: that of the answer, or of a fault of the store or the output
 pub record TookLineOf (answer : Outcome) (before now : Option (List ℕ)) : Type 0 where
   pub ending : Ending
   pub is : (ending ≡ answer.ending) ⊎ ((ending ≡ ends.StoreFault) ⊎ (ending ≡ ends.OutputFault))

@@ -31,7 +31,7 @@ status_of ending.Memory = status.Memory
 abbrev pub line : List ℕ → List ℕ
 line text = text ++ 10 ∷ []
 
--- a line about a file or a unit: its name, and what is told of it
+-- a line about a file or a unit: its name, and what is reported of it
 abbrev pub line_about : List ℕ → List ℕ → List ℕ
 line_about name text = line (name ++ (codes ": " ++ text))
 
@@ -43,7 +43,7 @@ with_number word number = word ++ decimal number
 abbrev pub with_numbers : List ℕ → (first second : ℕ) → List ℕ
 with_numbers word first second = with_number word first ++ with_number (codes " ") second
 
--- what is told of a fault of a source file; want of memory is told by no line
+-- what is reported of a fault of a source file; Memory has no report line
 abbrev pub fault_text : SourceFault → List ℕ
 fault_text (fault.TooLong count) = with_number (codes "TooLong ") count
 fault_text (fault.Unnumbered count) = with_number (codes "Unnumbered ") count
@@ -54,16 +54,16 @@ fault_text (fault.Unclosed line) = with_number (codes "Unclosed ") line
 fault_text fault.NoUnit = codes "NoUnit"
 fault_text fault.Memory = []
 
--- what is told of a refusal
+-- what is reported of a refusal
 abbrev pub refusal_text : Refusal → List ℕ
 refusal_text (Source fault) = fault_text fault
 refusal_text (Rule rule line) = with_numbers (codes "Rule ") rule line
 
--- what is told of a size that passes its limit
+-- what is reported of a size over its limit
 abbrev pub size_text : (size limit : ℕ) → List ℕ
 size_text size limit = with_numbers (codes "too large ") size limit
 
--- the exception that is told
+-- the exception that is reported
 abbrev pub exception_of : ExAt → Exception
 exception_of at = record { number = at.ex; line = at.line; unit = at.unit }
 

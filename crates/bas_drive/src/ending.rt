@@ -1,16 +1,16 @@
 use bas_accept::Refusal;
 use bas_base::{ExAt, FileName, Name};
 
-/// How a command ends, with what its report line tells.
+/// How a command ends, with what its report line says.
 #[derive(Clone, Copy, Debug)]
 pub enum Ending {
-    /// The run came to its end.
+    /// The program reached its end.
     Ended,
-    /// An exception that nobody took stopped the run.
+    /// An unhandled exception stopped the run.
     Stopped(ExAt),
     /// The lines that the run was given are spent.
     LinesSpent,
-    /// The words are no command.
+    /// The command line is not valid.
     Usage,
     /// The file is not there.
     Missing(FileName),

@@ -24,13 +24,13 @@ ghost use Rattle.bas_drive.specs.declared.status.Status.TheVariants as status;
 use bas_accept::{accepted_law, sound_program_law};
 use bas_execute::sound_program_is_not_lost;
 
-/// The answer is Usage exactly where the words are no command.
+/// The answer is Usage exactly if the command line is not valid.
 pub fn usage_is_for_no_command()
     ensures { (words : List (List ℕ)) (files : Files) (input : List ℕ) →
         (status_of (answer_of words files input).ending ≡ status.Usage) ↔ (command_of words ≡ None) }
 {}
 
-/// The answer to `go` is FileMissing exactly where the file is not there.
+/// The answer to `go` is FileMissing exactly if the file is not there.
 pub fn missing_is_for_no_file()
     ensures { (words : List (List ℕ)) (files : Files) (input name : List ℕ) (lines : ℕ) →
         command_of words ≡ Some (Go name lines) →

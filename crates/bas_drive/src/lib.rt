@@ -16,6 +16,3 @@ mod words;
 
 pub use status::Status;
 pub use top::basic_words;
-
-#[cfg(test)]
-mod tests;

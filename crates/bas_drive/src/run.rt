@@ -21,7 +21,7 @@ use bas_vm::Turn;
 use bas_world::Sink;
 use std::alloc::Global;
 
-// The ending that the machine's answer tells. No accepted program is lost or refused by it.
+// The ending for the machine's answer. The machine neither refuses nor loses an accepted program.
 fn turn_ending(turn: Turn) -> Ending
     ensures { result ≡ turn_ending turn }
 {
@@ -64,7 +64,7 @@ pub fn run_units<O: Sink>(
 {
     match first_program(units) {
         Some(program) => run_program(alloc, program, lines, out),
-        // The answer has this case too; no accepted file comes to it.
+        // The definition has this case too, but no accepted file has it.
         None => Ending::Refused(name, Refusal::Source(SourceFault::NoUnit)),
     }
 }

@@ -3,11 +3,11 @@ ghost use Rattle.std.specs.Prelude.{◌≡◌};
 /// The answer of the program, whose code is its exit status.
 #[derive(Clone, Copy, Debug, PartialEq, Eq)]
 pub enum Status {
-    /// A run came to its end, or a command did all that it was asked.
+    /// A program reached its end, or a command did everything that it was asked.
     Ended,
-    /// An exception that nobody took stopped the run.
+    /// An unhandled exception stopped the run.
     Stopped,
-    /// The words are no command.
+    /// The command line is not valid.
     Usage,
     /// A source file is refused.
     SourceRefused,

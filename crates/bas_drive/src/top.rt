@@ -158,9 +158,9 @@ fn perform<S: Store, O: Sink>(alloc: Global, words: &[String], store: &mut S, ou
 }
 
 /// Does what the words of the command line ask: `go` and the name of a source file compiles the
-/// program in that file and runs it, for the number of lines behind `--lines` or else a thousand
-/// millions. The answer's status is the program's exit status, and one line about it goes to the
-/// report where it has one.
+/// program in that file and runs it, for the number of lines after `--lines`, or otherwise for a thousand
+/// million lines. The answer's status is the program's exit status, and its report line, if it has
+/// one, goes to the report.
 pub fn basic_words<S: Store, I: Source, O: Sink, E: Sink>(
     alloc: Global,
     words: &[String],
@@ -171,7 +171,7 @@ pub fn basic_words<S: Store, I: Source, O: Sink, E: Sink>(
 ) -> Status
     requires { S.longest store.old ≡ 68 }
 
-    // Where the store tells its files, no count of faults rose and there was memory: the status,
+    // If the store tells its files, no count of faults rose and there was memory: the status,
     // the output and the report are those of the answer to the words, whatever the input.
     ensures exact { IfSome (S.files store.old) (λ files. (input : List ℕ) →
         ¬ Rose (S.faults store.old) (S.faults store.new) →
@@ -181,13 +181,13 @@ pub fn basic_words<S: Store, I: Source, O: Sink, E: Sink>(
         IsAnswered (answer_of (map string_bytes words.now) files input)
         (O.taken out.old) (O.taken out.new) (E.taken report.old) (E.taken report.new) result) }
 
-    // Whatever failed: that answer, or a failure with the front of its output.
+    // Whatever failed: that answer, or a failure with a prefix of its output.
     ensures answered { IfSome (S.files store.old) (λ files. (input : List ℕ) →
         AnswersOrGivesUp (answer_of (map string_bytes words.now) files input)
         (O.taken out.old) (O.taken out.new) (E.taken report.old) (E.taken report.new) result) }
     ensures built_statuses { IsTrue (can_be result) }
 
-    // Words that are no command: Usage with its line, and nothing else is done, over any store.
+    // A command line that is not valid: Usage with its line, and nothing else is done.
     ensures usage { result ≡ Status.Usage → command_of (map string_bytes words.now) ≡ None }
     ensures no_command { command_of (map string_bytes words.now) ≡ None →
         IsTold Ending.Usage (E.taken report.old) (E.taken report.new) result }
@@ -195,12 +195,12 @@ pub fn basic_words<S: Store, I: Source, O: Sink, E: Sink>(
         IsIdle (O.taken out.old) (O.taken out.new) (O.faults out.old) (O.faults out.new)
         (S.faults store.old) (S.faults store.new) }
 
-    // A fault is answered only where that object's count rose in this call.
+    // A fault is answered only if that object's count rose in this call.
     ensures store_fault { result ≡ Status.StoreFault → Rose (S.faults store.old) (S.faults store.new) }
     ensures output_fault { result ≡ Status.OutputFault → Rose (O.faults out.old) (O.faults out.new) }
     ensures report_fault { result ≡ Status.ReportFault → Rose (E.faults report.old) (E.faults report.new) }
 
-    // Where a count rose, the answer is the fault of that object, of the report, or want of memory.
+    // If a count rose, the answer is the fault of that object or of the report, or Memory.
     ensures store_rose { S.faults store.old < S.faults store.new →
         IsTrue (tells_fault Status.StoreFault result) }
     ensures output_rose { O.faults out.old < O.faults out.new →

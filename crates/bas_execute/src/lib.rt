@@ -6,8 +6,6 @@
 
 mod law;
 mod program;
-#[cfg(test)]
-mod tests;
 
 pub use law::sound_program_is_not_lost;
 pub use program::execute;

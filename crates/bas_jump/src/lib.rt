@@ -13,6 +13,3 @@ mod program;
 pub use law::fault_tells_jumps;
 pub use line::JumpFault;
 pub use program::jump_fault;
-
-#[cfg(test)]
-mod tests;

@@ -5,6 +5,3 @@
 mod carried;
 
 pub use carried::{carried_image_is_run, run_carried};
-
-#[cfg(test)]
-mod tests;

@@ -31,12 +31,12 @@ TookOf before now (run.Stopped x seen) = TookPrefix before now seen.terminal.out
 TookOf before now (run.GoesOn seen) = TookPrefix before now seen.terminal.output
 TookOf before now run.Lost = Unit {0}
 
--- a state comes to that end
+-- a run from the state ends so
 pub record ComesTo (image : Image) (c : State) (e : RunEnd) : Type 0 where
   pub steps : ℕ
   pub ends : exec image steps c ≡ Some e
 
--- a turn tells the end to which a state comes, and the sink took its whole output
+-- the turn is the end of the run from a state, and the sink took the whole output
 pub record Tells (image : Image) (c : State) (before now : Option (List ℕ)) (t : Turn) : Type 0 where
   pub end : RunEnd
   pub comes : ComesTo image c end
@@ -44,7 +44,7 @@ pub record Tells (image : Image) (c : State) (before now : Option (List ℕ)) (t
   pub is : IsEnd t output end
   pub took : TookAll before now output
 
--- what a turn promises of a state: it tells its end, or the sink took the front of the output of any end
+-- what a turn promises of a state: it is the end of the run, or the sink took a prefix of the output of every end
 abbrev pub TurnOf : Image → State → (before now : Option (List ℕ)) → Turn → Type 0
 TurnOf image c before now OutputFault = (e : RunEnd) → ComesTo image c e → TookOf before now e
 TurnOf image c before now Memory = (e : RunEnd) → ComesTo image c e → TookOf before now e

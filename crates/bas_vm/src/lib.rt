@@ -30,6 +30,3 @@ pub use fitness::is_fit;
 pub use top::run;
 pub use turn::Turn;
 pub use write::write_all;
-
-#[cfg(test)]
-mod tests;

@@ -1,17 +1,17 @@
 use bas_base::ExAt;
 
-/// How a run for a number of lines comes to its end.
+/// How a run for a number of lines ends.
 #[derive(Clone, Copy, Debug)]
 pub enum Turn {
     /// The program ended.
     Ended,
-    /// An exception that nobody caught ended the program.
+    /// An unhandled exception ended the program.
     Stopped(ExAt),
     /// A line was reached when no line was left.
     LinesSpent,
     /// An instruction did not find what it takes, or there was none.
     Lost,
-    /// The body of the program has a `WHEN` block, or a jump that goes back to no mark.
+    /// The body of the program has a `WHEN` block, or a jump back to an instruction that is not a mark.
     Refused,
     /// The output failed.
     OutputFault,
