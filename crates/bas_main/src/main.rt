@@ -1,21 +1,12 @@
 //! The program: it runs the command that its words are, over the current folder and the standard
 //! streams, and ends with the command's status.
-//!
-//! The folder and the streams are the edge to the outside. They tell no content and count their
-//! errors, and they fail exactly where they count one.
 #![tactic(auto)]
 
-mod files;
-mod folder;
-mod streams;
-#[cfg(test)]
-mod tests;
 mod words;
 
 use bas_drive::{Status, basic_words};
-use folder::Folder;
+use bas_system::{Folder, StreamSink, StreamSource};
 use std::process::ExitCode;
-use streams::{StreamSink, StreamSource};
 
 fn main(rt: HostRuntime) -> ExitCode {
     let mut store = Folder::new(&rt);

@@ -1,5 +1,5 @@
-//! The tests of the memory that stands for files and streams, and of the one call that the program
-//! makes, each over public calls.
+//! The tests of the memory that stands for files and streams, of the folder, and of the one call that
+//! the program makes, each over public calls.
 //!
 //! There is a module for each crate that is tested, and nothing but tests. What a fault of the outside
 //! leads to is tried with each call failing in turn.
@@ -7,6 +7,8 @@
 
 #[cfg(test)]
 mod drive;
+#[cfg(test)]
+mod folder;
 #[cfg(test)]
 mod programs;
 #[cfg(test)]

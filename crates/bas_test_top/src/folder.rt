@@ -1,11 +1,11 @@
-use crate::folder::Folder;
 use bas_base::FileName;
+use bas_system::Folder;
 use bas_world::{Store, StoreFail};
 use std::test::Fail;
 
 #[test]
 fn a_folder_holds_files(rt: HostRuntime) -> Result<(), Fail> {
-    let name = FileName::of(b"bas_main_folder_test.tmp")?;
+    let name = FileName::of(b"bas_folder_test.tmp")?;
     let mut folder = Folder::new(&rt);
     assert!(rt; matches!(folder.size(name), Ok(None)));
     let mut buf = *b"........";
