@@ -8,7 +8,8 @@ use Rattle.bas_face.specs.declared.shape.Shape.{Shape}
 use Rattle.bas_face.specs.declared.shape.Shape.TheVariants as shape
 use Rattle.bas_face.specs.Fits.{fits}
 use Rattle.bas_scope.specs.Nodes.{Node, OfPrimary, OfWhole, OfCall, item_nodes}
-use Rattle.bas_scope.specs.Scope.{Meaning, Variable, SubOf, FunctionOf, Supplied, Scope, stands_for, called_by, formals_on}
+use Rattle.bas_scope.specs.Scope.{formals_on}
+use Rattle.bas_scope.specs.Senses.{Sense, Shaped, SubWith, FunctionWith, SuppliedWith, Senses, senses_of}
 use Rattle.bas_rules.specs.declared.limits.TheConstants.{LONGEST_LIST, LAST_CHANNEL}
 use Rattle.bas_rules.specs.Sites.{Site}
 use Rattle.bas_rules.specs.Kinds.{is_number, actuals_of, form_with}
@@ -26,23 +27,23 @@ element_of (shape.StrArray length n) = shape.Str length
 element_of other = other
 
 -- a variable or an element by reference; anything else is a value
-abbrev pub referred_with : t.Args → (value : Shape) → Meaning → Shape
-referred_with t.NoArgs value (Variable home cell) = cell.shape
-referred_with (t.MoreArgs actual rest) value (Variable home cell) = element_of cell.shape
+abbrev pub referred_with : t.Args → (value : Shape) → Sense → Shape
+referred_with t.NoArgs value (Shaped shape) = shape
+referred_with (t.MoreArgs actual rest) value (Shaped shape) = element_of shape
 referred_with args value _ = value
 
 -- what an operand refers to by itself, else a value
-abbrev pub reference_or : Scope → (value : Shape) → Option t.Primary → Shape
-reference_or s value (Some (t.Named name args)) = referred_with args value (stands_for s name)
+abbrev pub reference_or : Senses → (value : Shape) → Option t.Primary → Shape
+reference_or s value (Some (t.Named name args)) = referred_with args value (s.named name)
 reference_or s value _ = value
 
 -- what CALL passes: variables, elements and arrays by reference
-abbrev pub passed_by_call : Scope → t.Actual → Shape
+abbrev pub passed_by_call : Senses → t.Actual → Shape
 passed_by_call s (t.Argument expr) = reference_or s (value_of expr) (lone_primary expr)
 passed_by_call s (t.ChanArgument number) = shape.Channel
 
 -- what a function is passed: arrays by reference, all else by value
-abbrev pub passed_to_function : Scope → t.Actual → Shape
+abbrev pub passed_to_function : Senses → t.Actual → Shape
 passed_to_function s (t.Argument expr) =
     if is_whole_array s (t.Argument expr) then reference_or s (value_of expr) (lone_primary expr) else value_of expr
 passed_to_function s (t.ChanArgument number) = shape.Channel
@@ -58,50 +59,50 @@ abbrev pub misfits : (t.Actual → Shape) → List t.Actual → Option (List Sha
 misfits passed actuals formals = option_map_or (λ known. not (all_fit (map passed actuals) known)) formals false
 
 -- arguments of a function of this unit that do not fit
-abbrev pub misfits_function : Scope → List t.Actual → Meaning → Bool
-misfits_function s actuals (FunctionOf home formals value) = misfits (passed_to_function s) actuals formals
+abbrev pub misfits_function : Senses → List t.Actual → Sense → Bool
+misfits_function s actuals (FunctionWith formals set_here) = misfits (passed_to_function s) actuals formals
 misfits_function s actuals _ = false
 
 -- arguments of a SUB of this unit that do not fit
-abbrev pub misfits_sub : Scope → List t.Actual → Meaning → Bool
-misfits_sub s actuals (SubOf home formals) = misfits (passed_by_call s) actuals formals
+abbrev pub misfits_sub : Senses → List t.Actual → Sense → Bool
+misfits_sub s actuals (SubWith formals) = misfits (passed_by_call s) actuals formals
 misfits_sub s actuals _ = false
 
 -- a call of a procedure of this unit with arguments that do not fit
-abbrev pub misfits_at : Scope → Node → Bool
-misfits_at s (OfPrimary (t.Named name args)) = misfits_function s (actuals_of args) (stands_for s name)
-misfits_at s (OfWhole (t.Named name args)) = misfits_function s (actuals_of args) (stands_for s name)
-misfits_at s (OfCall name args) = misfits_sub s (actuals_of args) (called_by s name)
+abbrev pub misfits_at : Senses → Node → Bool
+misfits_at s (OfPrimary (t.Named name args)) = misfits_function s (actuals_of args) (s.named name)
+misfits_at s (OfWhole (t.Named name args)) = misfits_function s (actuals_of args) (s.named name)
+misfits_at s (OfCall name args) = misfits_sub s (actuals_of args) (s.called name)
 misfits_at s _ = false
 
 -- 11: a call of one of the unit's own procedures has another count of arguments, or one does not fit
 abbrev pub misfits_a_formal : Site → Bool
-misfits_a_formal x = list_any (misfits_at x.body.scope) (item_nodes x.item)
+misfits_a_formal x = list_any (misfits_at (senses_of x.body.scope)) (item_nodes x.item)
 
 -- the number of the dimension is left out, though the array has several
-abbrev pub is_of_several : Scope → Option t.Primary → Bool
-is_of_several s (Some (t.Named name t.NoArgs)) = nat_lt 1 (dimensions_in (stands_for s name))
+abbrev pub is_of_several : Senses → Option t.Primary → Bool
+is_of_several s (Some (t.Named name t.NoArgs)) = nat_lt 1 (dimensions_in (s.named name))
 is_of_several s _ = false
 
 -- one argument alone, an array of several dimensions
-abbrev pub lacks_dimension : Scope → List t.Actual → Bool
+abbrev pub lacks_dimension : Senses → List t.Actual → Bool
 lacks_dimension s (t.Argument expr ∷ []) = is_of_several s (lone_primary expr)
 lacks_dimension s _ = false
 
 -- no form of the supplied function has that count of arguments
-abbrev pub miscounts : Scope → Meaning → List t.Actual → Bool
-miscounts s (Supplied forms) actuals = not (is_some (form_with (length actuals) forms)) || lacks_dimension s actuals
+abbrev pub miscounts : Senses → Sense → List t.Actual → Bool
+miscounts s (SuppliedWith forms) actuals = not (is_some (form_with (length actuals) forms)) || lacks_dimension s actuals
 miscounts s _ actuals = false
 
 -- an operand that calls a supplied function with a wrong count
-abbrev pub miscounts_at : Scope → Node → Bool
-miscounts_at s (OfPrimary (t.Named name args)) = miscounts s (stands_for s name) (actuals_of args)
-miscounts_at s (OfWhole (t.Named name args)) = miscounts s (stands_for s name) (actuals_of args)
+abbrev pub miscounts_at : Senses → Node → Bool
+miscounts_at s (OfPrimary (t.Named name args)) = miscounts s (s.named name) (actuals_of args)
+miscounts_at s (OfWhole (t.Named name args)) = miscounts s (s.named name) (actuals_of args)
 miscounts_at s _ = false
 
 -- 12: a supplied function has another count of arguments
 abbrev pub miscounts_supplied : Site → Bool
-miscounts_supplied x = list_any (miscounts_at x.body.scope) (item_nodes x.item)
+miscounts_supplied x = list_any (miscounts_at (senses_of x.body.scope)) (item_nodes x.item)
 
 -- a list has more entries than it may
 abbrev pub is_too_long : {X : Type 0} → List X → Bool

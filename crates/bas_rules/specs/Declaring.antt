@@ -8,8 +8,10 @@ use Rattle.bas_text.specs.declared.byte_string.TheConstants.{MAX_STRING_LEN}
 use Rattle.bas_ast.specs.Tree as t
 use Rattle.bas_rules.specs.declared.limits.TheConstants.{FARTHEST_BOUND, MOST_ELEMENTS, MOST_DIMENSIONS}
 use Rattle.bas_scope.specs.Lines.{unit_lines}
-use Rattle.bas_scope.specs.Shapes.{Options, is_text_name, bounds_of}
+use Rattle.bas_scope.specs.Shapes.{is_text_name, bounds_of}
 use Rattle.bas_scope.specs.Scope.{formals_on, entry_of}
+use Rattle.bas_rules.specs.declared.options.OptionKind.{OptionKind}
+use Rattle.bas_rules.specs.declared.options.OptionKind.TheVariants as option
 use Rattle.bas_rules.specs.Sites.{Site}
 use Rattle.bas_rules.specs.Jumping.{is_initial}
 
@@ -73,18 +75,26 @@ abbrev pub is_range : ℤ × ℤ → Bool
 is_range b =
     le_z b.0 b.1 && (le_z (neg_ℤ FARTHEST_BOUND) b.0 && le_z b.1 FARTHEST_BOUND)
 
+-- how many elements a dimension has between its bounds
+abbrev pub extent : ℤ × ℤ → ℕ
+extent b = unsigned_abs (b.1 -ℤ b.0 +ℤ pos 1)
+
 -- how many elements there are between the bounds
 abbrev pub elements : List (ℤ × ℤ) → ℕ
 elements [] = 1
-elements (b ∷ bs) = unsigned_abs (b.1 -ℤ b.0 +ℤ pos 1) * elements bs
+elements (b ∷ bs) = extent b * elements bs
+
+-- bounds in range, with so many elements at most
+abbrev pub are_within : (most : ℕ) → List (ℤ × ℤ) → Bool
+are_within most bounds = list_all is_range bounds && nat_le (elements bounds) most
 
 -- bounds that an array may have
 abbrev pub are_bounds : List (ℤ × ℤ) → Bool
-are_bounds bounds = list_all is_range bounds && (nat_le (elements bounds) MOST_ELEMENTS && nat_le (length bounds) MOST_DIMENSIONS)
+are_bounds bounds = nat_le (length bounds) MOST_DIMENSIONS && are_within MOST_ELEMENTS bounds
 
 -- a declared variable whose bounds are out of range
-abbrev pub has_bad_bounds : Options → t.DeclaredItem → Bool
-has_bad_bounds options item = not (are_bounds (map (bounds_of options) item.bounds))
+abbrev pub has_bad_bounds : (base : ℤ) → t.DeclaredItem → Bool
+has_bad_bounds base item = not (are_bounds (map (bounds_of base) item.bounds))
 
 -- a formal array of too many dimensions
 abbrev pub has_many_dimensions : t.Formal → Bool
@@ -94,41 +104,38 @@ has_many_dimensions (t.FormalChan number) = false
 -- 14: bounds are the wrong way round or too far from 0, or an array has too many elements or dimensions
 abbrev pub has_bounds_out_of_range : Site → Bool
 has_bounds_out_of_range x =
-    list_any (has_bad_bounds x.body.scope.outer.options) (items_on x.item) || list_any has_many_dimensions (formals_on x.item)
-
--- the two kinds of OPTION
-pub data OptionKind : Type 0 where
-  Base : OptionKind
-  Arithmetic : OptionKind
+    list_any (has_bad_bounds x.body.scope.outer.options.base) (items_on x.item) || list_any has_many_dimensions (formals_on x.item)
 
 -- the kind of an OPTION line
 abbrev pub option_on : t.LineItem → Option OptionKind
-option_on (t.OfDecl t.OptionBaseZero) = Some Base
-option_on (t.OfDecl t.OptionBaseOne) = Some Base
-option_on (t.OfDecl t.OptionArithmeticDecimal) = Some Arithmetic
-option_on (t.OfDecl (t.OptionArithmeticFixed spec)) = Some Arithmetic
+option_on (t.OfDecl t.OptionBaseZero) = Some option.Base
+option_on (t.OfDecl t.OptionBaseOne) = Some option.Base
+option_on (t.OfDecl t.OptionArithmeticDecimal) = Some option.Arithmetic
+option_on (t.OfDecl (t.OptionArithmeticFixed spec)) = Some option.Arithmetic
 option_on _ = None
 
 -- an option of that kind
 abbrev pub same_option : OptionKind → Option OptionKind → Bool
-same_option Base (Some Base) = true
-same_option Arithmetic (Some Arithmetic) = true
+same_option option.Base (Some option.Base) = true
+same_option option.Arithmetic (Some option.Arithmetic) = true
 same_option _ _ = false
 
--- all but the first
-abbrev pub but_first : {X : Type 0} → List X → List X
-but_first [] = []
-but_first (x ∷ xs) = xs
+-- an OPTION may follow no line that is none, and none of its own kind
+abbrev pub may_not_follow : OptionKind → t.NumLine → Bool
+may_not_follow kind line = not (is_some (option_on line.item)) || same_option kind (option_on line.item)
 
--- an OPTION after other lines than the first one of its unit, or after one of its kind
-abbrev pub comes_late : OptionKind → List t.NumLine → Bool
-comes_late kind before =
-    list_any (λ line. not (is_some (option_on line.item))) (but_first before) || list_any (λ line. same_option kind (option_on line.item)) before
+-- an OPTION with lines before it that it may not follow; the first of its unit may be any but one of its kind
+abbrev pub comes_late : OptionKind → (before : List t.NumLine) → Bool
+comes_late kind [] = false
+comes_late kind (line ∷ lines) = same_option kind (option_on line.item) || list_any (may_not_follow kind) lines
+
+-- the same for what stands on a line of that number in a unit of these lines
+abbrev pub is_late_option : List t.NumLine → ℕ → t.LineItem → Bool
+is_late_option lines l item = option_map_or (λ kind. comes_late kind (filter (λ line. nat_lt line.line l) lines)) (option_on item) false
 
 -- 15: OPTION stands after other lines, or a second time
 abbrev pub has_late_option : Site → Bool
-has_late_option x =
-    option_map_or (λ kind. comes_late kind (filter (λ line. nat_lt line.line x.line) (unit_lines x.unit))) (option_on x.item) false
+has_late_option x = is_late_option (unit_lines x.unit) x.line x.item
 
 -- a declaration that stands in modules alone
 abbrev pub is_of_module : t.LineItem → Bool

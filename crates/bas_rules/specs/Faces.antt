@@ -16,6 +16,7 @@ use Rattle.bas_scope.specs.Lines.{gathered, own_lines}
 use Rattle.bas_scope.specs.Shapes.{Options}
 use Rattle.bas_scope.specs.Nodes.{Node, OfPrimary, OfWhole, OfCall, item_nodes}
 use Rattle.bas_scope.specs.Scope.{Meaning, Variable, SubOf, FunctionOf, OtherUnit, Scope, stands_for, called_by, procedure_on, formal_shapes, internals_of}
+use Rattle.bas_scope.specs.Senses.{senses_of}
 use Rattle.bas_scope.specs.Bodies.{outer_of, on_lines, public_on, uses_of}
 use Rattle.bas_rules.specs.Sites.{Site, sites_of}
 use Rattle.bas_rules.specs.Kinds.{actuals_of}
@@ -55,13 +56,13 @@ exports_of options (t.ModuleUnit m) = exports_from options (privates_of m) (suc 
 -- a call of a function of another unit
 abbrev pub function_import : Scope → List ℕ → t.Args → Meaning → List Import
 function_import s name args (FunctionOf OtherUnit formals value) =
-    record { name = name; kind = call.Function; actuals = map (passed_to_function s) (actuals_of args) } ∷ []
+    record { name = name; kind = call.Function; actuals = map (passed_to_function (senses_of s)) (actuals_of args) } ∷ []
 function_import s name args _ = []
 
 -- a call of a SUB of another unit
 abbrev pub sub_import : Scope → List ℕ → t.Args → Meaning → List Import
 sub_import s name args (SubOf OtherUnit formals) =
-    record { name = name; kind = call.Sub; actuals = map (passed_by_call s) (actuals_of args) } ∷ []
+    record { name = name; kind = call.Sub; actuals = map (passed_by_call (senses_of s)) (actuals_of args) } ∷ []
 sub_import s name args _ = []
 
 -- the external call at a node

@@ -4,7 +4,9 @@ use Rattle.std.specs.Option.{option_to_list}
 use Rattle.std.specs.List.{list_any}
 use Rattle.bas_ast.specs.Tree as t
 use Rattle.bas_scope.specs.Lines.{gathered}
-use Rattle.bas_scope.specs.Bodies.{BodyKind, Main, Initial, head_item, data_lines}
+use Rattle.bas_scope.specs.declared.body.BodyKind.{BodyKind}
+use Rattle.bas_scope.specs.declared.body.BodyKind.TheVariants.{Main, Initial}
+use Rattle.bas_scope.specs.Bodies.{head_item, data_lines}
 use Rattle.bas_rules.specs.Sites.{Site, counted_lines}
 use Rattle.bas_rules.specs.Statements.{plains_on, miss_of}
 

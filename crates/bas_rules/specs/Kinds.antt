@@ -6,7 +6,7 @@ use Rattle.bas_face.specs.declared.shape.Shape.{Shape}
 use Rattle.bas_face.specs.declared.shape.Shape.TheVariants as shape
 use Rattle.bas_scope.specs.Shapes.{is_text_name}
 use Rattle.bas_scope.specs.Supplied.{Parameter, Number, Text, Array, Forms}
-use Rattle.bas_scope.specs.Scope.{Meaning, Variable, SubOf, FunctionOf, Supplied, Scope, stands_for, called_by}
+use Rattle.bas_scope.specs.Senses.{Sense, Shaped, SubWith, FunctionWith, SuppliedWith, Senses}
 use Rattle.bas_scope.specs.Nodes.{Node, OfExpr, OfTerm, OfFactor, OfPrimary, OfTarget, OfTest, OfWhole, OfCall}
 
 -- what a value is
@@ -165,15 +165,15 @@ form_agrees actuals None = true
 form_agrees actuals (Some form) = parameters_agree actuals form
 
 -- the arguments of what a name stands for: subscripts are numbers
-abbrev pub args_agree : List t.Actual → Meaning → Bool
-args_agree actuals (Variable home cell) = list_all is_number_actual actuals
-args_agree actuals (SubOf home formals) = known_agree actuals formals
-args_agree actuals (FunctionOf home formals value) = known_agree actuals formals
-args_agree actuals (Supplied forms) = form_agrees actuals (form_with (length actuals) forms)
+abbrev pub args_agree : List t.Actual → Sense → Bool
+args_agree actuals (Shaped shape) = list_all is_number_actual actuals
+args_agree actuals (SubWith formals) = known_agree actuals formals
+args_agree actuals (FunctionWith formals set_here) = known_agree actuals formals
+args_agree actuals (SuppliedWith forms) = form_agrees actuals (form_with (length actuals) forms)
 
 -- arguments that have their kinds
-abbrev pub call_agrees : Meaning → List t.Actual → Bool
-call_agrees meaning actuals = list_all chan_agrees actuals && args_agree actuals meaning
+abbrev pub call_agrees : Sense → List t.Actual → Bool
+call_agrees sense actuals = list_all chan_agrees actuals && args_agree actuals sense
 
 -- the kind of a target
 abbrev pub target_kind : t.Target → Kind
@@ -185,8 +185,8 @@ test_agrees (t.Compare left rel right) = same_kind (expr_kind left) (expr_kind r
 test_agrees _ = true
 
 -- the parts of an operand have their kinds
-abbrev pub primary_agrees : Scope → t.Primary → Bool
-primary_agrees s (t.Named name args) = call_agrees (stands_for s name) (actuals_of args)
+abbrev pub primary_agrees : Senses → t.Primary → Bool
+primary_agrees s (t.Named name args) = call_agrees (s.named name) (actuals_of args)
 primary_agrees s (t.Substring target first last) = is_string (target_kind target) && (is_number first && is_number last)
 primary_agrees s _ = true
 
@@ -195,7 +195,7 @@ abbrev pub target_agrees : t.Target → Bool
 target_agrees (t.Variable name subscripts) = are_numeric_exprs subscripts
 
 -- the operands of a node have their kinds
-abbrev pub node_agrees : Scope → Node → Bool
+abbrev pub node_agrees : Senses → Node → Bool
 node_agrees s (OfExpr expr) = expr_agrees expr
 node_agrees s (OfTerm term) = term_agrees term
 node_agrees s (OfFactor factor) = factor_agrees factor
@@ -203,4 +203,4 @@ node_agrees s (OfPrimary primary) = primary_agrees s primary
 node_agrees s (OfWhole primary) = primary_agrees s primary
 node_agrees s (OfTarget target) = target_agrees target
 node_agrees s (OfTest test) = test_agrees test
-node_agrees s (OfCall name args) = call_agrees (called_by s name) (actuals_of args)
+node_agrees s (OfCall name args) = call_agrees (s.called name) (actuals_of args)

@@ -1,6 +1,6 @@
 -- The rules on names: what a line declares, and how it uses what its names stand for.
 use Rattle.std.specs.Prelude.{ℕ, suc, Bool, true, false, not, ◌&&◌, ◌||◌, nat_eq, nat_lt, List, [], ◌∷◌, ◌++◌, length, map, Option, Some, None}
-use Rattle.std.specs.Option.{option_map_or}
+use Rattle.std.specs.Option.{option_map_or, option_to_list}
 use Rattle.std.specs.List.{list_any, filter, filter_map}
 use Rattle.std.specs.Str.{bytes_eq}
 use Rattle.bas_ast.specs.Tree as t
@@ -10,21 +10,19 @@ use Rattle.bas_face.specs.declared.shape.Shape.TheVariants as shape
 use Rattle.bas_scope.specs.Lines.{gathered, own_lines}
 use Rattle.bas_scope.specs.Nodes.{Node, OfPrimary, OfTarget, OfCall, item_nodes}
 use Rattle.bas_scope.specs.Supplied.{Parameter, Array}
-use Rattle.bas_scope.specs.Scope.{Meaning, Variable, SubOf, FunctionOf, Supplied, Scope, stands_for, called_by, formals_on}
-use Rattle.bas_scope.specs.Bodies.{BodyKind, Internal, Body, Family, head_item, names_on, handler_on}
+use Rattle.bas_scope.specs.Scope.{formals_on}
+use Rattle.bas_scope.specs.Senses.{Sense, Shaped, SubWith, FunctionWith, SuppliedWith, Senses, senses_of}
+use Rattle.bas_scope.specs.declared.body.BodyKind.{BodyKind}
+use Rattle.bas_scope.specs.declared.body.BodyKind.TheVariants.{Internal}
+use Rattle.bas_scope.specs.Bodies.{Body, Family, head_item, names_on, handler_on}
+use Rattle.bas_rules.specs.declared.claims.Claim.{Claim}
+use Rattle.bas_rules.specs.declared.claims.Claim.TheVariants.{Types, Imports, Makes}
 use Rattle.bas_rules.specs.Sites.{Site}
 use Rattle.bas_rules.specs.Kinds.{actuals_of, form_with}
 
 -- a name is one of some
 abbrev pub is_among : List ℕ → List (List ℕ) → Bool
 is_among name names = list_any (bytes_eq name) names
-
--- how a line claims a name: DECLARE without bounds may type a formal, DECLARE EXTERNAL FUNCTION may name
--- the function that it stands in, and any other declaration makes the name anew
-pub data Claim : Type 0 where
-  Types : (name : List ℕ) → Claim
-  Imports : (name : List ℕ) → Claim
-  Makes : (name : List ℕ) → Claim
 
 -- the name of a claim
 abbrev pub claimed_name : Claim → List ℕ
@@ -64,9 +62,13 @@ claims_on _ = []
 abbrev pub lines_before : Body → ℕ → List t.NumLine
 lines_before body l = filter (λ line. nat_lt line.line l) (own_lines body.block)
 
+-- the names that a line declares
+abbrev pub names_claimed : t.LineItem → List (List ℕ)
+names_claimed item = map claimed_name (claims_on item)
+
 -- the names that the lines of a body before a line declare
 abbrev pub claimed_before : Body → ℕ → List (List ℕ)
-claimed_before body l = gathered (λ line. map claimed_name (claims_on line.item)) (lines_before body l)
+claimed_before body l = gathered (λ line. names_claimed line.item) (lines_before body l)
 
 -- the name of a formal
 abbrev pub name_of_formal : t.Formal → Option (List ℕ)
@@ -101,10 +103,8 @@ may_not_claim Internal head claim = is_no_formal head claim
 may_not_claim _ head claim = heading_has head claim
 
 -- a claim of a name that was claimed before, or that the body does not take
-abbrev pub claims_clash : Body → (before : List (List ℕ)) → List Claim → Bool
-claims_clash body before [] = false
-claims_clash body before (claim ∷ claims) =
-    is_among (claimed_name claim) before || (may_not_claim body.kind (head_item body.head) claim || claims_clash body (claimed_name claim ∷ before) claims)
+abbrev pub is_refused : BodyKind → (head : t.LineItem) → (before : List (List ℕ)) → Claim → Bool
+is_refused kind head before claim = is_among (claimed_name claim) before || may_not_claim kind head claim
 
 -- a name that stands twice among some
 abbrev pub has_twice : List (List ℕ) → Bool
@@ -112,13 +112,13 @@ has_twice [] = false
 has_twice (name ∷ names) = is_among name names || has_twice names
 
 -- a name stands for a SUB
-abbrev pub is_sub_meaning : Meaning → Bool
-is_sub_meaning (SubOf home formals) = true
-is_sub_meaning _ = false
+abbrev pub is_sub_sense : Sense → Bool
+is_sub_sense (SubWith formals) = true
+is_sub_sense _ = false
 
 -- the names that a line uses as variables, and that a SUB has
-abbrev pub sub_names_used : Scope → t.LineItem → List (List ℕ)
-sub_names_used s item = filter (λ name. is_sub_meaning (stands_for s name)) (names_on item)
+abbrev pub sub_names_used : Senses → t.LineItem → List (List ℕ)
+sub_names_used s item = filter (λ name. is_sub_sense (s.named name)) (names_on item)
 
 -- the bodies of a family
 abbrev pub bodies_in : Family → List Body
@@ -126,11 +126,11 @@ bodies_in f = f.container ∷ f.internals
 
 -- a line uses a name as a variable that a SUB before it has
 abbrev pub uses_sub_before : Site → Bool
-uses_sub_before x = list_any (λ name. is_among name (claimed_before x.family.container x.line)) (sub_names_used x.body.scope x.item)
+uses_sub_before x = list_any (λ name. is_among name (claimed_before x.family.container x.line)) (sub_names_used (senses_of x.body.scope) x.item)
 
 -- the names of SUBs that are used as variables before a line
 abbrev pub used_before : Family → ℕ → List (List ℕ)
-used_before f l = gathered (λ body. gathered (λ line. sub_names_used body.scope line.item) (lines_before body l)) (bodies_in f)
+used_before f l = gathered (λ body. gathered (λ line. sub_names_used (senses_of body.scope) line.item) (lines_before body l)) (bodies_in f)
 
 -- a line begins or declares a SUB whose name is used as a variable before it
 abbrev pub claims_used : Site → Bool
@@ -139,8 +139,9 @@ claims_used x = list_any (λ claim. is_among (claimed_name claim) (used_before x
 -- 1: a name gets a second declaration or a second kind
 abbrev pub declared_twice : Site → Bool
 declared_twice x =
-    claims_clash x.body (claimed_before x.body x.line) (claims_on x.item)
-    || (has_twice (function_name x.item ++ formal_names x.item) || (uses_sub_before x || claims_used x))
+    list_any (is_refused x.body.kind (head_item x.body.head) (claimed_before x.body x.line)) (claims_on x.item)
+    || (has_twice (names_claimed x.item)
+    || (has_twice (function_name x.item ++ formal_names x.item) || (uses_sub_before x || claims_used x)))
 
 -- how many dimensions a variable has
 abbrev pub dimensions_of : Shape → ℕ
@@ -149,13 +150,13 @@ dimensions_of (shape.StrArray length n) = n
 dimensions_of _ = 0
 
 -- the dimensions of what a name stands for
-abbrev pub dimensions_in : Meaning → ℕ
-dimensions_in (Variable home cell) = dimensions_of cell.shape
+abbrev pub dimensions_in : Sense → ℕ
+dimensions_in (Shaped shape) = dimensions_of shape
 dimensions_in _ = 0
 
 -- a name stands for an array
-abbrev pub is_array : Meaning → Bool
-is_array meaning = nat_lt 0 (dimensions_in meaning)
+abbrev pub is_array : Sense → Bool
+is_array sense = nat_lt 0 (dimensions_in sense)
 
 -- how many expressions there are
 abbrev pub exprs_length : t.Exprs → ℕ
@@ -163,51 +164,59 @@ exprs_length t.NoExprs = 0
 exprs_length (t.MoreExprs expr rest) = suc (exprs_length rest)
 
 -- an array that is an argument by itself
-abbrev pub named_array : Scope → Option t.Primary → Bool
-named_array s (Some (t.Named name t.NoArgs)) = is_array (stands_for s name)
+abbrev pub named_array : Senses → Option t.Primary → Bool
+named_array s (Some (t.Named name t.NoArgs)) = is_array (s.named name)
 named_array s _ = false
 
 -- an argument that is an array by itself
-abbrev pub is_whole_array : Scope → t.Actual → Bool
+abbrev pub is_whole_array : Senses → t.Actual → Bool
 is_whole_array s (t.Argument expr) = named_array s (lone_primary expr)
 is_whole_array s (t.ChanArgument number) = false
 
 -- a supplied function takes whole arrays where it asks for them, and there alone
-abbrev pub misuses_array : Scope → List t.Actual → List Parameter → Bool
+abbrev pub misuses_array : Senses → List t.Actual → List Parameter → Bool
 misuses_array s (actual ∷ actuals) (Array ∷ parameters) = not (is_whole_array s actual) || misuses_array s actuals parameters
 misuses_array s (actual ∷ actuals) (parameter ∷ parameters) = is_whole_array s actual || misuses_array s actuals parameters
 misuses_array s _ _ = false
 
 -- wrong subscripts of an array, or a wrong use of arrays as arguments
-abbrev pub misuses_args : Scope → Meaning → List t.Actual → Bool
-misuses_args s (Variable home cell) actuals =
-    nat_lt 0 (dimensions_of cell.shape) && (not (nat_eq (length actuals) (dimensions_of cell.shape)) || list_any (is_whole_array s) actuals)
-misuses_args s (Supplied forms) actuals = option_map_or (misuses_array s actuals) (form_with (length actuals) forms) false
+abbrev pub misuses_args : Senses → Sense → List t.Actual → Bool
+misuses_args s (Shaped shape) actuals =
+    nat_lt 0 (dimensions_of shape) && (not (nat_eq (length actuals) (dimensions_of shape)) || list_any (is_whole_array s) actuals)
+misuses_args s (SuppliedWith forms) actuals = option_map_or (misuses_array s actuals) (form_with (length actuals) forms) false
 misuses_args s _ actuals = false
 
 -- another number of subscripts than the target has dimensions
-abbrev pub misuses_target : Meaning → (subscripts : ℕ) → Bool
-misuses_target (Variable home cell) n = not (nat_eq n (dimensions_of cell.shape))
+abbrev pub misuses_target : Sense → (subscripts : ℕ) → Bool
+misuses_target (Shaped shape) n = not (nat_eq n (dimensions_of shape))
 misuses_target _ n = nat_lt 0 n
 
 -- an operand or a target that misuses an array
-abbrev pub array_misused : Scope → Node → Bool
-array_misused s (OfPrimary (t.Named name args)) = misuses_args s (stands_for s name) (actuals_of args)
-array_misused s (OfTarget (t.Variable name subscripts)) = misuses_target (stands_for s name) (exprs_length subscripts)
+abbrev pub array_misused : Senses → Node → Bool
+array_misused s (OfPrimary (t.Named name args)) = misuses_args s (s.named name) (actuals_of args)
+array_misused s (OfTarget (t.Variable name subscripts)) = misuses_target (s.named name) (exprs_length subscripts)
 array_misused s _ = false
 
 -- 2: an array is not declared, or has another number of subscripts
 abbrev pub misuses_an_array : Site → Bool
-misuses_an_array x = list_any (array_misused x.body.scope) (item_nodes x.item)
+misuses_an_array x = list_any (array_misused (senses_of x.body.scope)) (item_nodes x.item)
 
--- the handlers of a body before a line
+-- the name of the handler that a line begins
+abbrev pub handler_name : t.LineItem → List (List ℕ)
+handler_name item = option_to_list (handler_on item)
+
+-- the handlers of a body
+abbrev pub handlers_in : Body → List (List ℕ)
+handlers_in body = gathered (λ line. handler_name line.item) (own_lines body.block)
+
+-- those before a line
 abbrev pub handlers_before : Body → ℕ → List (List ℕ)
-handlers_before body l = filter_map (λ line. handler_on line.item) (lines_before body l)
+handlers_before body l = gathered (λ line. handler_name line.item) (lines_before body l)
 
 -- WHEN without its handler, or a second handler of a name
 abbrev pub lacks_handler : Site → t.LineItem → Bool
 lacks_handler x (t.OfPart (t.WhenExceptionUse name)) =
-    not (is_among name (filter_map (λ line. handler_on line.item) (own_lines x.body.block)))
+    not (is_among name (handlers_in x.body))
 lacks_handler x (t.OfPart (t.Handler name)) = is_among name (handlers_before x.body x.line)
 lacks_handler x _ = false
 
@@ -221,8 +230,8 @@ is_number_shape (shape.Num type) = true
 is_number_shape _ = false
 
 -- a name stands for a numeric scalar
-abbrev pub is_number_scalar : Meaning → Bool
-is_number_scalar (Variable home cell) = is_number_shape cell.shape
+abbrev pub is_number_scalar : Sense → Bool
+is_number_scalar (Shaped shape) = is_number_shape shape
 is_number_scalar _ = false
 
 -- the variable of a FOR line
@@ -233,7 +242,7 @@ counter_of _ = []
 -- FOR or NEXT with another variable than it may have
 abbrev pub bad_counter : Site → t.LineItem → Bool
 bad_counter x (t.OfPart (t.For name start limit step)) =
-    not (is_number_scalar (stands_for x.body.scope name)) || is_among name x.around.counters
+    not (is_number_scalar ((senses_of x.body.scope).named name)) || is_among name x.around.counters
 bad_counter x (t.OfPart (t.Next name)) = not (is_among name (counter_of x.opener))
 bad_counter x _ = false
 
@@ -242,38 +251,38 @@ abbrev pub counts_by_wrong_variable : Site → Bool
 counts_by_wrong_variable x = bad_counter x x.item
 
 -- a name stands for a function whose value is not set here
-abbrev pub is_outside_function : Meaning → Bool
-is_outside_function (FunctionOf home formals None) = true
+abbrev pub is_outside_function : Sense → Bool
+is_outside_function (FunctionWith formals false) = true
 is_outside_function _ = false
 
 -- a name stands for a function
-abbrev pub is_function : Meaning → Bool
-is_function (FunctionOf home formals value) = true
+abbrev pub is_function : Sense → Bool
+is_function (FunctionWith formals set_here) = true
 is_function _ = false
 
 -- a target or a substring of a function
-abbrev pub sets_function : Scope → Node → Bool
-sets_function s (OfTarget (t.Variable name t.NoExprs)) = is_outside_function (stands_for s name)
-sets_function s (OfPrimary (t.Substring (t.Variable name subscripts) first last)) = is_function (stands_for s name)
+abbrev pub sets_function : Senses → Node → Bool
+sets_function s (OfTarget (t.Variable name t.NoExprs)) = is_outside_function (s.named name)
+sets_function s (OfPrimary (t.Substring (t.Variable name subscripts) first last)) = is_function (s.named name)
 sets_function s _ = false
 
 -- 16: a function's name is a target outside of it
 abbrev pub sets_a_function : Site → Bool
-sets_a_function x = list_any (sets_function x.body.scope) (item_nodes x.item)
+sets_a_function x = list_any (sets_function (senses_of x.body.scope)) (item_nodes x.item)
 
 -- what may have arguments
-abbrev pub takes_args : Meaning → Bool
-takes_args (Variable home cell) = nat_lt 0 (dimensions_of cell.shape)
-takes_args (SubOf home formals) = false
-takes_args (FunctionOf home formals value) = true
-takes_args (Supplied forms) = true
+abbrev pub takes_args : Sense → Bool
+takes_args (Shaped shape) = nat_lt 0 (dimensions_of shape)
+takes_args (SubWith formals) = false
+takes_args (FunctionWith formals set_here) = true
+takes_args (SuppliedWith forms) = true
 
 -- a name with arguments that takes none, or CALL of a function
-abbrev pub applies_nothing : Scope → Node → Bool
-applies_nothing s (OfPrimary (t.Named name (t.MoreArgs actual rest))) = not (takes_args (stands_for s name))
-applies_nothing s (OfCall name args) = is_function (called_by s name)
+abbrev pub applies_nothing : Senses → Node → Bool
+applies_nothing s (OfPrimary (t.Named name (t.MoreArgs actual rest))) = not (takes_args (s.named name))
+applies_nothing s (OfCall name args) = is_function (s.called name)
 applies_nothing s _ = false
 
 -- 23: a name with arguments is no array and no known function, or CALL names a function
 abbrev pub calls_what_is_none : Site → Bool
-calls_what_is_none x = list_any (applies_nothing x.body.scope) (item_nodes x.item)
+calls_what_is_none x = list_any (applies_nothing (senses_of x.body.scope)) (item_nodes x.item)

@@ -3,7 +3,9 @@ use Rattle.std.specs.Prelude.{ℕ, Bool, true, false, if◌then◌else◌, List,
 use Rattle.bas_ast.specs.Tree as t
 use Rattle.bas_scope.specs.Lines.{gathered, opens_procedure}
 use Rattle.bas_scope.specs.Scope.{Outer, definition_on}
-use Rattle.bas_scope.specs.Bodies.{BodyKind, Main, External, Initial, Body, Family, family_of, internal_body, outer_of}
+use Rattle.bas_scope.specs.declared.body.BodyKind.{BodyKind}
+use Rattle.bas_scope.specs.declared.body.BodyKind.TheVariants.{Main, External, Initial}
+use Rattle.bas_scope.specs.Bodies.{Body, Family, family_of, internal_body, outer_of}
 
 -- what is around a line in its body
 pub record Around : Type 0 where

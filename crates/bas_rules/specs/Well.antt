@@ -4,6 +4,7 @@ use Rattle.std.specs.Option.{option_or, option_map}
 use Rattle.std.specs.List.{list_any, list_all}
 use Rattle.bas_ast.specs.Tree.{SourceUnit}
 use Rattle.bas_scope.specs.Nodes.{item_nodes}
+use Rattle.bas_scope.specs.Senses.{senses_of}
 use Rattle.bas_rules.specs.Sites.{Site, sites_of}
 use Rattle.bas_rules.specs.Kinds.{node_agrees}
 use Rattle.bas_rules.specs.Statements.{plains_on, plain_agrees, item_agrees}
@@ -16,7 +17,7 @@ use Rattle.bas_rules.specs.Recording.{has_bad_case, has_bad_attributes, awaits_w
 -- 3: an operand, a target, a declared name or an argument has another kind than is wanted
 abbrev pub has_wrong_kind : Site → Bool
 has_wrong_kind x =
-    not (item_agrees x.item && (list_all plain_agrees (plains_on x.item) && list_all (node_agrees x.body.scope) (item_nodes x.item)))
+    not (item_agrees x.item && (list_all plain_agrees (plains_on x.item) && list_all (node_agrees (senses_of x.body.scope)) (item_nodes x.item)))
     || declares_other_kind x.item
 
 -- the rules in their order, from 1 on; each test tells what its rule forbids

@@ -6,8 +6,9 @@ ghost use Rattle.bas_ast.specs.Tree.{OfDecl};
 ghost use Rattle.bas_ast.specs.DeclarationTree.{declared_tree, kind_tree, decl_tree};
 ghost use Rattle.bas_rules.specs.Declaring as rule;
 
-use crate::types::{has_bad_type, is_number_type, is_text_name};
+use crate::types::{has_bad_type, is_number_type};
 use bas_ast::{Decl, DeclaredItem, DeclaredKind};
+use bas_scope::is_text_name;
 
 fn has_other_kind(kind: DeclaredKind, item: &DeclaredItem) -> bool
     ensures { result ≡ rule.has_other_kind (kind_tree kind) (declared_tree item.now) }

@@ -2,14 +2,20 @@
 #![tactic(auto)]
 
 mod attributes;
+mod bounds;
+mod claims;
 mod declared;
 mod examples;
 mod formals;
 mod limits;
+mod lists;
+mod options;
 mod types;
 mod waits;
 
 pub use attributes::are_bad_attributes;
+pub use bounds::declares_bad_bounds;
+pub use claims::{Claim, claims_on};
 pub use declared::{declares_bad_type, declares_other_kind};
 pub use examples::{
     arguments_fit, array_uses, attributes_and_waits, blocks_and_jumps, declarations_in_bounds,
@@ -21,5 +27,7 @@ pub use limits::{
     FARTHEST_BOUND, LARGEST_RECORD, LAST_CHANNEL, LEAST_RECORD, LONGEST_LIST, MOST_DIMENSIONS,
     MOST_ELEMENTS,
 };
-pub use types::{has_bad_type, is_number_type, is_text_name, is_text_type};
+pub use lists::{are_too_many_formals, has_too_long_list};
+pub use options::{OptionKind, is_late_option, option_on};
+pub use types::{has_bad_type, is_number_type, is_text_type};
 pub use waits::awaits_wrongly;

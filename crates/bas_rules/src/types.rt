@@ -2,20 +2,13 @@
 
 ghost use Rattle.std.specs.Prelude.{◌≡◌};
 ghost use Rattle.bas_ast.specs.DeclarationTree.{type_tree, declared_tree};
-ghost use Rattle.bas_scope.specs.Shapes.{is_text_name as is_text_name_of};
 ghost use Rattle.bas_rules.specs.Declaring.{is_number_type as is_number_type_of, is_text_type as is_text_type_of, has_bad_type as has_bad_type_of, is_type_of as type_of};
 
 use bas_ast::{DeclaredItem, TypeSpec};
 use bas_base::Name;
 use bas_dec::PLACES;
+use bas_scope::is_text_name;
 use bas_text::MAX_STRING_LEN;
-
-/// Whether a name is that of a string: it ends with `$`.
-pub fn is_text_name(name: Name) -> bool
-    ensures { result ≡ is_text_name_of name }
-{
-    name.bytes().ends_with(b"$")
-}
 
 /// Whether a type has 1 to 38 digits, and no more places than a number has.
 pub fn is_number_type(spec: TypeSpec) -> bool

@@ -7,6 +7,8 @@ use Rattle.bas_ast.specs.Tree as t
 use Rattle.bas_face.specs.declared.face.CallKind.{CallKind}
 use Rattle.bas_face.specs.declared.face.CallKind.TheVariants as call
 use Rattle.bas_face.specs.declared.shape.Shape.{Shape}
+use Rattle.bas_scope.specs.declared.body.BodyKind.{BodyKind}
+use Rattle.bas_scope.specs.declared.body.BodyKind.TheVariants.{Main, External, Internal, Initial}
 use Rattle.bas_scope.specs.Lines.{gathered, own_lines, unit_lines}
 use Rattle.bas_scope.specs.Nodes.{Node, OfPrimary, OfTarget, OfWhole, item_nodes}
 use Rattle.bas_scope.specs.Shapes.{Options, options_of, shape_of, undeclared}
@@ -38,13 +40,6 @@ outer_in options _ = record { options = options; variables = []; procedures = []
 -- what all bodies of a unit see, with the options that it sets
 abbrev pub outer_of : t.SourceUnit → Outer
 outer_of unit = outer_in (options_of (unit_lines unit)) unit
-
--- what a body is of
-pub data BodyKind : Type 0 where
-  Main : BodyKind
-  External : BodyKind
-  Internal : BodyKind
-  Initial : BodyKind
 
 -- a body: its first line, where it has one, its block, and what it sees
 pub record Body : Type 0 where

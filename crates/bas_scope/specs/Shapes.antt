@@ -83,12 +83,12 @@ abbrev pub undeclared : Options → (name : List ℕ) → Cell
 undeclared options name = unbounded (shape_of options name None 0)
 
 -- the bounds of a dimension; the lower one is that of OPTION BASE where it is not written
-abbrev pub bounds_of : Options → Bound → ℤ × ℤ
-bounds_of options bound = (unwrap_or bound.low options.base, bound.high)
+abbrev pub bounds_of : (base : ℤ) → Bound → ℤ × ℤ
+bounds_of base bound = (unwrap_or bound.low base, bound.high)
 
 -- the cell of a declared variable
 abbrev pub declared_cell : Options → DeclaredItem → Cell
 declared_cell options item = record {
   shape = shape_of options item.name (Some item) (length item.bounds);
-  bounds = three (map (bounds_of options) item.bounds);
+  bounds = three (map (bounds_of options.base) item.bounds);
 }

@@ -3,6 +3,8 @@ use Rattle.std.specs.Prelude.{ℕ, Bool, List, [], ◌∷◌, Option, codes}
 use Rattle.std.specs.Option.{is_some}
 use Rattle.std.specs.Map.{lookup}
 use Rattle.std.specs.Str.{bytes_eq}
+use Rattle.bas_scope.specs.declared.supplied.Forms.{Forms as Told}
+use Rattle.bas_scope.specs.declared.supplied.Forms.TheVariants as told
 
 -- what an argument is
 pub data Parameter : Type 0 where
@@ -34,6 +36,24 @@ text = (Text ∷ []) ∷ []
 abbrev pub bound : Forms
 bound = (Array ∷ []) ∷ (Array ∷ Number ∷ []) ∷ []
 
+-- a string, a string and perhaps the place from which it is looked for
+abbrev pub position : Forms
+position = (Text ∷ Text ∷ []) ∷ (Text ∷ Text ∷ Number ∷ []) ∷ []
+
+-- a string and how often
+abbrev pub repetition : Forms
+repetition = (Text ∷ Number ∷ []) ∷ []
+
+-- the forms that an answer names
+abbrev pub forms_told : Told → Forms
+forms_told told.Nothing = nothing
+forms_told told.Number = number
+forms_told told.Numbers = numbers
+forms_told told.Text = text
+forms_told told.Bound = bound
+forms_told told.Position = position
+forms_told told.Repetition = repetition
+
 -- each supplied function with its forms
 abbrev pub supplied : List (List ℕ × Forms)
 supplied =
@@ -42,9 +62,9 @@ supplied =
     ∷ (codes "TRUNCATE", numbers) ∷ (codes "SQR", number) ∷ (codes "MAX", numbers) ∷ (codes "MIN", numbers)
     ∷ (codes "MAXNUM", nothing) ∷ (codes "RND", nothing) ∷ (codes "EXTYPE", nothing) ∷ (codes "EXLINE", nothing)
     ∷ (codes "LBOUND", bound) ∷ (codes "UBOUND", bound) ∷ (codes "LEN", text) ∷ (codes "ORD", text) ∷ (codes "CHR$", number)
-    ∷ (codes "POS", (Text ∷ Text ∷ []) ∷ (Text ∷ Text ∷ Number ∷ []) ∷ []) ∷ (codes "STR$", number) ∷ (codes "VAL", text)
+    ∷ (codes "POS", position) ∷ (codes "STR$", number) ∷ (codes "VAL", text)
     ∷ (codes "UCASE$", text) ∷ (codes "LCASE$", text) ∷ (codes "LTRIM$", text) ∷ (codes "RTRIM$", text)
-    ∷ (codes "REPEAT$", (Text ∷ Number ∷ []) ∷ []) ∷ []
+    ∷ (codes "REPEAT$", repetition) ∷ []
 
 -- the forms of the supplied function of a name
 abbrev pub forms_of : List ℕ → Option Forms

@@ -7,8 +7,20 @@
 //! line. The functions compute them for four units.
 #![tactic(auto)]
 
+mod body;
 mod examples;
+mod head;
+mod sense;
+mod supplied;
+mod text_name;
+mod written;
 
+pub use body::BodyKind;
 pub use examples::{
     internal_procedures_share, names_of_a_module, names_of_other_units, types_and_bounds,
 };
+pub use head::{formals_on, procedure_on};
+pub use sense::Sense;
+pub use supplied::{Forms, forms_of};
+pub use text_name::is_text_name;
+pub use written::{WrittenShape, WrittenType};
