@@ -1,0 +1,9 @@
+-- The first lines among those that are taken.
+use Rattle.std.proofs.Common.{take}
+use Rattle.bas_names.specs.Lent.{line_trees}
+use Rattle.bas_rules.specs.Naming.{names_claimed}
+use Rattle.bas_claim.specs.First.{AreFirst}
+use Rattle.bas_claim.proofs.tables.first_claims.Given as goal
+
+abbrev pub invariant-loop-line : goal.invariant-loop-line
+invariant-loop-line l = AreFirst l.first names_claimed (line_trees (take l.line-index l.lines))

@@ -1,0 +1,4 @@
+pub mod Law
+pub mod Lent
+pub mod Names
+pub mod Tables

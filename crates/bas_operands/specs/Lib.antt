@@ -1,0 +1,4 @@
+pub mod Operands
+pub mod Parameters
+pub mod Passing
+pub mod Whole

@@ -1,0 +1,5 @@
+mod Definitions
+mod Gaining
+mod Inners
+mod Numbers
+mod Tops

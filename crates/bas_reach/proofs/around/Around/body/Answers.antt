@@ -1,0 +1,8 @@
+-- The lines of the body alone.
+use Rattle.bas_ast.specs.BlockTree.{block_tree}
+use Rattle.bas_rules.specs.Sites.{counted_lines}
+use Rattle.bas_reach.proofs.Layers.{tells_outermost}
+use Rattle.bas_reach.proofs.around.Around.body.Goals as goal
+
+pub returns : goal.returns
+returns c = tells_outermost c.outermost.result c.in_ok-lines.lines _ (counted_lines (block_tree c.args.block.now)) c.outermost.ensures c.in_ok-lines.ensures

@@ -1,0 +1,9 @@
+-- The lines of the body, and END.
+use Rattle.std.proofs.Common.{◌++◌, ◌∷◌, []}
+use Rattle.bas_ast.specs.BlockTree.{block_tree}
+use Rattle.bas_rules.specs.Sites.{counted_lines}
+use Rattle.bas_reach.proofs.Layers.{tells_outermost}
+use Rattle.bas_reach.proofs.around.Around.program.Goals as goal
+
+pub returns : goal.returns
+returns c = tells_outermost c.outermost.result c.in_ok-lines.lines _ (counted_lines (block_tree c.args.block.now) ++ c.args.end ∷ []) c.outermost.ensures c.in_ok-lines.ensures

@@ -1,0 +1,4 @@
+pub mod Sets
+pub mod Standing
+pub mod Lent
+pub mod Placing

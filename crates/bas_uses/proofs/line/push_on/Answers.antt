@@ -1,0 +1,7 @@
+-- What the first part uses stands first.
+use Rattle.bas_uses.proofs.Appending.{two_parts}
+use Rattle.bas_uses.proofs.line.push_on.Goals as goal
+
+pub returns : goal.returns
+returns c =
+    two_parts c.push_else_plain.result c.args.names.now.items c.push_expr.new.names.items c.push_else_plain.new.names.items _ _ c.in_ok-push_expr.ensures c.push_else_plain.ensures

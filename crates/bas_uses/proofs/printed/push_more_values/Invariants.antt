@@ -1,0 +1,10 @@
+-- The names so far, with those of what is left, are those of the whole.
+use Rattle.std.proofs.Common.{◌≡◌, ◌++◌, map, drop}
+use Rattle.bas_ast.specs.StatementTree.{value_tree}
+use Rattle.bas_scope.specs.Lines.{gathered}
+use Rattle.bas_scope.specs.Nodes.{expr_nodes}
+use Rattle.bas_uses.specs.Uses.{bare_names}
+use Rattle.bas_uses.proofs.printed.push_more_values.Given as goal
+
+abbrev pub invariant-loop-value : goal.invariant-loop-value
+invariant-loop-value l = l.names.items ++ bare_names (gathered (λ x. expr_nodes x.1) (map value_tree (drop l.value-index l.values))) ≡ l.initial.names.items ++ bare_names (gathered (λ x. expr_nodes x.1) (map value_tree l.values))
