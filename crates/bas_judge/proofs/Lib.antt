@@ -4,3 +4,4 @@ pub mod Bases
 pub mod Found
 pub mod Claiming
 pub mod Lines
+pub mod Defining

@@ -29,7 +29,8 @@ fn is_sub(sense: Sense<'_>) -> bool
     matches!(sense, Sense::Sub(_))
 }
 
-fn is_any_sub_before(names: &Names<'_>, first: &FirstLines, line: Line, used: &[Name]) -> bool
+/// Whether one of some names is that of a `SUB` which stands before a line.
+pub fn is_any_sub_before(names: &Names<'_>, first: &FirstLines, line: Line, used: &[Name]) -> bool
     ensures { result ≡ list_any (is_sub_before (senses_in names.now) first.now line) used.now }
 {
     for name in used {

@@ -68,12 +68,19 @@ target_rules s name (x ∷ xs) =
     let rules = λ (n : ℕ). first_broken ((2, misuses_target (s.named name) n) ∷ (3, not (target_agrees (t.Variable name (exprs_tree (x ∷ xs))))) ∷ []) in
     rw (eqb-suc-zero (length xs)) (ap rules (sym (exprs_counted (x ∷ xs))))
 
+-- a target, by what its name is
+pub set_is : (s : Senses) (name : List ℕ) (n : ℕ) (sense : Sense) (b c d : Bool) → sense ≡ s.named name
+    → b ≡ misuses_target sense n → d ≡ ((n == 0) && is_outside_function sense)
+    → first_broken ((2, b) ∷ (3, not c) ∷ (16, d) ∷ [])
+    ≡ first_broken ((2, misuses_target (s.named name) n) ∷ (3, not c) ∷ (16, (n == 0) && is_outside_function (s.named name)) ∷ [])
+set_is s name n sense b c d is eb ed = rw (eb, ed, is) refl
+
 -- a target
-pub target_is : (s : Senses) (x : Target) (xs : List Expr) (sense : Sense) (b c d : Bool) → xs ≡ (out-Target x).subscripts
-    → sense ≡ s.named (out-Target x).name → b ≡ misuses_target sense (length xs) → c ≡ target_agrees (target_tree x)
-    → d ≡ ((length xs == 0) && is_outside_function sense)
-    → first_broken ((2, b) ∷ (3, not c) ∷ (16, d) ∷ []) ≡ node_fault s (OfTarget (target_tree x))
-target_is s x xs sense b c d same is eb ec ed = rw (eb, ec, ed, is, target_out x, same) (target_rules s (out-Target x).name (out-Target x).subscripts)
+pub target_is : (s : Senses) (x : Target) (xs : List Expr) (c : Bool) → xs ≡ (out-Target x).subscripts → c ≡ target_agrees (target_tree x)
+    → first_broken ((2, misuses_target (s.named (out-Target x).name) (length xs)) ∷ (3, not c)
+    ∷ (16, (length xs == 0) && is_outside_function (s.named (out-Target x).name)) ∷ [])
+    ≡ node_fault s (OfTarget (target_tree x))
+target_is s x xs c same ec = rw (ec, target_out x, same) (target_rules s (out-Target x).name (out-Target x).subscripts)
 
 -- a substring
 pub substring_is : (s : Senses) (x : Target) (first last : t.Expr) (sense : Sense) (c d : Bool) → sense ≡ s.named (out-Target x).name

@@ -1,14 +1,14 @@
 //! The least rule that one operand, target or `CALL` breaks by itself.
 
 ghost use Rattle.std.specs.Prelude.{◌≡◌, ◌==◌, ◌&&◌, [], ◌∷◌, not, length};
-ghost use Rattle.bas_ast.specs.Tree.{Named, NoArgs, Substring};
+ghost use Rattle.bas_ast.specs.Tree.{Named, NoArgs, NoExprs, Substring, Variable};
 ghost use Rattle.bas_ast.specs.ExpressionTree.{expr_tree, term_tree, factor_tree, target_tree, actuals_tree};
 ghost use Rattle.bas_ast.specs.ConditionTree.{test_tree};
 ghost use Rattle.bas_scope.specs.Nodes.{OfExpr, OfTerm, OfFactor, OfTest, OfPrimary, OfTarget, OfWhole, OfCall};
 ghost use Rattle.bas_scope.specs.Senses.{Senses, sense_told};
 ghost use Rattle.bas_names.specs.Names.{senses_in};
 ghost use Rattle.bas_rules.specs.Kinds.{primary_agrees};
-ghost use Rattle.bas_rules.specs.Naming.{takes_args as takes_args_of, is_outside_function as is_outside};
+ghost use Rattle.bas_rules.specs.Naming.{takes_args as takes_args_of, is_outside_function as is_outside, misuses_target as misuses_target_of};
 ghost use Rattle.bas_operands.specs.Operands.{node_fault, first_broken as first_broken_of};
 
 use crate::arrays::misuses_args;
@@ -117,17 +117,34 @@ fn is_set_outside(sense: Sense<'_>, subscripts: usize) -> bool
     subscripts == 0 && is_outside_function(sense)
 }
 
+// The least rule that a target breaks with a number of subscripts, where `agrees` tells whether they are
+// numbers.
+fn set_fault(names: &Names<'_>, name: Name, subscripts: usize, agrees: bool) -> Option<u8>
+    ensures { let sense = (senses_in names.now).named name in
+        result ≡ first_broken_of ((2, misuses_target_of sense subscripts) ∷ (3, not agrees) ∷ (16, (subscripts == 0) && is_outside sense) ∷ []) }
+{
+    let sense = names.named(name);
+    first_broken(&[
+        (2, misuses_target(sense, subscripts)),
+        (3, !agrees),
+        (16, is_set_outside(sense, subscripts)),
+    ])
+}
+
 /// The least rule that a target breaks by itself.
 pub fn own_target_fault(names: &Names<'_>, target: &Target) -> Option<u8>
     ensures { result ≡ node_fault (senses_in names.now) (OfTarget (target_tree target.now)) }
 {
-    let sense = names.named(target.name);
-    let subscripts = target.subscripts.as_slice().len();
-    first_broken(&[
-        (2, misuses_target(sense, subscripts)),
-        (3, !target_agrees(target)),
-        (16, is_set_outside(sense, subscripts)),
-    ])
+    let subscripts = target.subscripts.as_slice();
+    set_fault(names, target.name, subscripts.len(), target_agrees(target))
+}
+
+/// The least rule that a target without subscripts breaks by itself.
+#[tactic(auto, unfolding(crate::specs::Operands::node_fault))]
+pub fn bare_target_fault(names: &Names<'_>, name: Name) -> Option<u8>
+    ensures { result ≡ node_fault (senses_in names.now) (OfTarget (Variable name NoExprs)) }
+{
+    set_fault(names, name, 0, true)
 }
 
 #[tactic(auto, using(bas_ast::proofs::ExpressionTrees::expression_trees))]

@@ -1,0 +1,5 @@
+pub mod Faults
+pub mod Walks
+pub mod Containers
+pub mod Units
+pub mod Refusals
