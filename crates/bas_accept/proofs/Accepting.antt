@@ -1,52 +1,56 @@
 -- What is accepted is what the relation gives, both ways.
-use Rattle.std.proofs.Common.{◌≡◌, ◌⊎◌, inl, inr, ℕ, Bool, true, false, List, [], ◌∷◌, Option, Some, None, Result, Ok, Err, refl, ap, sym, ◌∙◌, subst}
+use Rattle.std.proofs.Common.{◌≡◌, ◌⊎◌, inl, inr, ℕ, ◌&&◌, Bool, true, List, [], ◌∷◌, Option, Some, None, Result, Ok, Err, refl, ap, sym, ◌∙◌, subst}
+use Rattle.std.specs.Option.{is_none, option_or}
 use Rattle.bas_ast.specs.Tree.{Program, SourceUnit, ProgramUnit, ProcedureUnit, ModuleUnit}
 use Rattle.bas_mean.specs.Built.{are_built}
-use Rattle.bas_mean.specs.Jumps.{jumps_are_right}
 use Rattle.bas_mean.specs.Meaning.{first_program}
+use Rattle.bas_rules.specs.Well.{Fault, first_fault}
 use Rattle.bas_block.specs.Files.{units_of}
 use Rattle.bas_block.specs.declared.file.SourceFault.{SourceFault}
 use Rattle.bas_block.specs.declared.file.SourceFault.TheVariants.{Memory}
 use Rattle.bas_block.proofs.FileLaws.{files_are_read, all_files_are_read}
 use Rattle.bas_unbuilt.specs.Unbuilt.{unbuilt_line}
 use Rattle.bas_unbuilt.proofs.Telling.{tells_built}
-use Rattle.bas_jump.specs.Faults.{jump_fault}
-use Rattle.bas_jump.specs.declared.line.JumpFault.{JumpFault}
-use Rattle.bas_jump.proofs.Telling.{tells_jumps}
+use Rattle.bas_accept.proofs.Reaching.{no_truth}
 use Rattle.bas_accept.proofs.Sounding.{accepted_is_sound}
 use Rattle.bas_accept.specs.declared.acceptance.Refusal.{Refusal}
 use Rattle.bas_accept.specs.declared.acceptance.Refusal.TheVariants.{Source}
-use Rattle.bas_accept.specs.Accepted.{HasSoundProgram, IsAccepted, unless_jump, with_right_jumps, unless_unbuilt, accepted_units, accepted_of, TellsAccepted}
+use Rattle.bas_accept.specs.Accepted.{HasSoundProgram, IsAccepted, keep_rules, fault_in_units, unless_fault, unless_unbuilt, accepted_units, accepted_of, TellsAccepted}
 
 abbrev units_in : Result (List SourceUnit) Refusal → List SourceUnit
 units_in (Ok units) = units
 units_in (Err r) = []
 
-abbrev RightJumps : Option Program → Type 0
-RightJumps o = (p : Program) → o ≡ Some p → jumps_are_right p ≡ true
+-- ---- units without a fault keep all rules
+
+kept : (o later : Option Fault) (b : Bool) → (later ≡ None → b ≡ true) → option_or o later ≡ None → (is_none o && b) ≡ true
+kept None later b go e = go e
+kept (Some fault) later b go e = absurd (cc)
+
+all_kept : (units : List SourceUnit) → fault_in_units units ≡ None → keep_rules units ≡ true
+all_kept [] e = refl
+all_kept (u ∷ units) e = kept (first_fault u) (fault_in_units units) (keep_rules units) (λ f. all_kept units f) e
+
+none_found : (o later : Option Fault) (b : Bool) → (b ≡ true → later ≡ None) → (is_none o && b) ≡ true → option_or o later ≡ None
+none_found None later b go e = go e
+none_found (Some fault) later b go e = absurd (no_truth e)
+
+no_faults : (units : List SourceUnit) → keep_rules units ≡ true → fault_in_units units ≡ None
+no_faults [] e = refl
+no_faults (u ∷ units) e = none_found (first_fault u) (fault_in_units units) (keep_rules units) (λ k. no_faults units k) e
 
 -- ---- what is accepted is in the relation
 
-no_jump : (us units : List SourceUnit) (o : Option JumpFault) → unless_jump us o ≡ Ok units → (us ≡ units) × (o ≡ None)
-no_jump us units None e = (ap units_in e, refl)
-no_jump us units (Some found) e = absurd (cc)
+no_fault : (us units : List SourceUnit) (o : Option Fault) → unless_fault us o ≡ Ok units → (us ≡ units) × (o ≡ None)
+no_fault us units None e = (ap units_in e, refl)
+no_fault us units (Some fault) e = absurd (cc)
 
-abbrev program_or : Program → Option Program → Program
-program_or p None = p
-program_or p (Some q) = q
-
-right_jumps : (us units : List SourceUnit) (o : Option Program) → with_right_jumps us o ≡ Ok units → (us ≡ units) × RightJumps o
-right_jumps us units None e = (ap units_in e, λ p h. absurd (cc))
-right_jumps us units (Some p) e =
-    let is = no_jump us units (jump_fault p) e in
-    (is.0, λ q h. subst (λ (x : Program). jumps_are_right x ≡ true) (ap (program_or p) h) (tells_jumps.none p is.1))
-
-no_unbuilt : (us units : List SourceUnit) (o : Option ℕ) → unless_unbuilt us o ≡ Ok units → (us ≡ units) × (o ≡ None) × RightJumps (first_program us)
-no_unbuilt us units None e = let is = right_jumps us units (first_program us) e in (is.0, refl, is.1)
+no_unbuilt : (us units : List SourceUnit) (o : Option ℕ) → unless_unbuilt us o ≡ Ok units → (us ≡ units) × (o ≡ None) × (fault_in_units us ≡ None)
+no_unbuilt us units None e = let is = no_fault us units (fault_in_units us) e in (is.0, refl, is.1)
 no_unbuilt us units (Some line) e = absurd (cc)
 
 abbrev Passes : Result (List SourceUnit) SourceFault → List SourceUnit → Type 0
-Passes r units = (r ≡ Ok units) × (unbuilt_line units ≡ None) × RightJumps (first_program units)
+Passes r units = (r ≡ Ok units) × (unbuilt_line units ≡ None) × (fault_in_units units ≡ None)
 
 units_pass : (units : List SourceUnit) (r : Result (List SourceUnit) SourceFault) → accepted_units r ≡ Ok units → Passes r units
 units_pass units (Err fault) e = absurd (cc)
@@ -62,7 +66,7 @@ pub is_accepted : (file : List ℕ) (units : List SourceUnit) → accepted_of fi
 is_accepted file units e =
     let pass = units_pass units (units_of file) e in
     let is = files_are_read file units pass.0 in
-    record { is_file = is; built = built_of units is.3 pass.1; jumps = pass.2 }
+    record { is_file = is; built = built_of units is.3 pass.1; rules = all_kept units pass.2 }
 
 -- ---- what is in the relation is accepted
 
@@ -70,15 +74,11 @@ none_unbuilt : (units : List SourceUnit) → ((units ≡ []) → ⊥) → are_bu
 none_unbuilt [] some b = absurd (some refl)
 none_unbuilt (u ∷ rest) some b = tells_built.built u rest b
 
-jumps_pass : (units : List SourceUnit) (o : Option Program) → RightJumps o → with_right_jumps units o ≡ Ok units
-jumps_pass units None j = refl
-jumps_pass units (Some p) j = ap (unless_jump units) (tells_jumps.right p (j p refl))
-
 is_whole : (file : List ℕ) (units : List SourceUnit) → IsAccepted file units → accepted_of file ≡ Ok units
 is_whole file units h =
     ap accepted_units (all_files_are_read file units h.is_file)
     ∙ ap (unless_unbuilt units) (none_unbuilt units h.is_file.3 h.built)
-    ∙ jumps_pass units (first_program units) h.jumps
+    ∙ ap (unless_fault units) (no_faults units h.rules)
 
 pub tells_accepted : TellsAccepted
 tells_accepted = record { found = is_accepted; whole = is_whole }

@@ -1,43 +1,51 @@
 -- Which source files are accepted, and why another one is refused.
-use Rattle.std.specs.Prelude.{◌≡◌, ℕ, true, List, Option, Some, None, Result, Ok, Err}
+use Rattle.std.specs.Prelude.{◌≡◌, ℕ, Bool, true, List, [], ◌∷◌, Option, Some, None, Result, Ok, Err}
+use Rattle.std.specs.Option.{is_none, option_or}
+use Rattle.std.specs.List.{list_all}
 use Rattle.bas_ast.specs.Tree.{Program, SourceUnit}
 use Rattle.bas_mean.specs.Built.{are_built}
-use Rattle.bas_mean.specs.Jumps.{jumps_are_right}
 use Rattle.bas_mean.specs.Meaning.{first_program}
 use Rattle.bas_carry.specs.Tables.{Sound}
+use Rattle.bas_rules.specs.Well.{Fault, first_fault}
 use Rattle.bas_block.specs.Files.{IsFile, units_of}
 use Rattle.bas_block.specs.declared.file.SourceFault.{SourceFault}
 use Rattle.bas_block.specs.declared.file.SourceFault.TheVariants.{BadLine}
 use Rattle.bas_unbuilt.specs.Unbuilt.{unbuilt_line}
-use Rattle.bas_jump.specs.Faults.{jump_fault}
-use Rattle.bas_jump.specs.declared.line.JumpFault.{JumpFault}
 use Rattle.bas_accept.specs.declared.acceptance.Refusal.{Refusal}
 use Rattle.bas_accept.specs.declared.acceptance.Refusal.TheVariants.{Source, Rule}
 
 -- ---- which files are accepted
 
--- a file has these units, their constructs are built, and the jumps of the program go where they may
+-- a unit keeps all rules where none is broken at any of its lines
+abbrev pub keeps_rules : SourceUnit → Bool
+keeps_rules unit = is_none (first_fault unit)
+
+-- the same for every unit
+abbrev pub keep_rules : List SourceUnit → Bool
+keep_rules units = list_all keeps_rules units
+
+-- a file has these units, their constructs are built, and they keep all rules
 pub record IsAccepted (file : List ℕ) (units : List SourceUnit) : Type 0 where
   pub is_file : IsFile file units
   pub built : are_built units ≡ true
-  pub jumps : (p : Program) → first_program units ≡ Some p → jumps_are_right p ≡ true
+  pub rules : keep_rules units ≡ true
 
 -- ---- the first refusal
 
--- a jump that may not go where it goes: its rule, and its line
-abbrev pub unless_jump : List SourceUnit → Option JumpFault → Result (List SourceUnit) Refusal
-unless_jump units None = Ok units
-unless_jump units (Some found) = Err (Rule found.rule found.line)
+-- the first line of units in order at which a rule is broken, and the least such rule
+abbrev pub fault_in_units : List SourceUnit → Option Fault
+fault_in_units [] = None
+fault_in_units (unit ∷ units) = option_or (first_fault unit) (fault_in_units units)
 
--- the jumps of the first program
-abbrev pub with_right_jumps : List SourceUnit → Option Program → Result (List SourceUnit) Refusal
-with_right_jumps units None = Ok units
-with_right_jumps units (Some p) = unless_jump units (jump_fault p)
+-- a rule that is broken, and its line
+abbrev pub unless_fault : List SourceUnit → Option Fault → Result (List SourceUnit) Refusal
+unless_fault units None = Ok units
+unless_fault units (Some fault) = Err (Rule fault.rule fault.line)
 
--- a construct that is not built, and then the jumps
+-- a construct that is not built, and then the rules
 abbrev pub unless_unbuilt : List SourceUnit → Option ℕ → Result (List SourceUnit) Refusal
 unless_unbuilt units (Some line) = Err (Source (BadLine line))
-unless_unbuilt units None = with_right_jumps units (first_program units)
+unless_unbuilt units None = unless_fault units (fault_in_units units)
 
 -- the units that a file has, where nothing in them is refused
 abbrev pub accepted_units : Result (List SourceUnit) SourceFault → Result (List SourceUnit) Refusal
@@ -45,7 +53,7 @@ accepted_units (Err fault) = Err (Source fault)
 accepted_units (Ok units) = unless_unbuilt units (unbuilt_line units)
 
 -- the units of a file, or the first refusal: by its lines and their nesting, then by what is not built,
--- then by the rules on jumps
+-- then by the rules of a unit
 abbrev pub accepted_of : List ℕ → Result (List SourceUnit) Refusal
 accepted_of file = accepted_units (units_of file)
 

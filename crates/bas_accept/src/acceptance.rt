@@ -5,14 +5,16 @@ ghost use Rattle.std.specs.Option.{option_map, option_copied};
 ghost use Rattle.bas_ast.specs.Tree.{SourceUnit};
 ghost use Rattle.bas_ast.specs.UnitTree.{unit_tree, program_tree};
 ghost use Rattle.bas_mean.specs.Meaning.{first_program};
+ghost use Rattle.bas_check.specs.Faults.{fault_told};
 ghost use Rattle.bas_block.specs.declared.file.SourceFault.TheVariants as fault;
 ghost use Rattle.bas_accept.specs.Accepted.{
   HasSoundProgram,
   IsAccepted,
   accepted_of,
   accepted_units,
+  fault_in_units,
+  unless_fault,
   unless_refused,
-  with_right_jumps,
 };
 ghost use Rattle.bas_accept.specs.declared.acceptance.Refusal.{Refusal};
 ghost use Rattle.bas_accept.specs.declared.acceptance.Refusal.TheVariants.{Source};
@@ -20,7 +22,7 @@ ghost use Rattle.bas_accept.specs.declared.acceptance.Refusal.TheVariants.{Sourc
 use bas_ast::{Program, Unit};
 use bas_base::Line;
 use bas_block::{SourceFault, units_of};
-use bas_jump::jump_fault;
+use bas_check::{Fault, first_fault};
 use bas_unbuilt::unbuilt_line;
 use std::alloc::{AllocError, Global};
 
@@ -29,8 +31,8 @@ use std::alloc::{AllocError, Global};
 pub enum Refusal {
     /// It has no units, or a line with a construct that is not built; or there was no memory.
     Source(SourceFault),
-    /// A rule on jumps is broken at a line: 4 where a jump's line is none that it may go to, 6 where
-    /// `EXIT DO` stands in no `DO`.
+    /// A rule of a unit is broken at a line: the least one that is broken at the first such line. Rules
+    /// are numbered from 1 to 24.
     Rule(u8, Line),
 }
 
@@ -81,15 +83,24 @@ pub fn first_program(units: &[Unit]) -> Option<&Program>
     None
 }
 
-// The refusal of a jump of the first program, if there is one.
-fn jump_refusal(alloc: Global, units: &[Unit]) -> Result<Option<Refusal>, AllocError>
-    ensures { IfOk result (λ r. with_right_jumps (map unit_tree units.now) (first_program (map unit_tree units.now)) ≡ unless_refused (map unit_tree units.now) r) }
+// The first line of some units in order at which a rule is broken, and the least such rule.
+fn fault_in_units(alloc: Global, units: &[Unit]) -> Result<Option<Fault>, AllocError>
+    ensures { IfOk result (λ found. option_map fault_told found ≡ fault_in_units (map unit_tree units.now)) }
 {
-    let Some(program) = first_program(units) else {
-        return Ok(None);
-    };
-    match jump_fault(alloc, program)? {
-        Some(found) => Ok(Some(Refusal::Rule(found.rule, found.line))),
+    for unit in units {
+        if let Some(fault) = first_fault(alloc, unit)? {
+            return Ok(Some(fault));
+        }
+    }
+    Ok(None)
+}
+
+// The refusal of a rule that some units break, if there is one.
+fn rule_refusal(alloc: Global, units: &[Unit]) -> Result<Option<Refusal>, AllocError>
+    ensures { IfOk result (λ r. unless_fault (map unit_tree units.now) (fault_in_units (map unit_tree units.now)) ≡ unless_refused (map unit_tree units.now) r) }
+{
+    match fault_in_units(alloc, units)? {
+        Some(fault) => Ok(Some(Refusal::Rule(fault.rule, fault.line))),
         None => Ok(None),
     }
 }
@@ -100,7 +111,7 @@ fn refusal_of(alloc: Global, units: &[Unit]) -> Result<Option<Refusal>, AllocErr
 {
     match unbuilt_line(units) {
         Some(line) => Ok(Some(Refusal::Source(SourceFault::BadLine(line)))),
-        None => jump_refusal(alloc, units),
+        None => rule_refusal(alloc, units),
     }
 }
 
@@ -117,9 +128,9 @@ fn first_answer(alloc: Global, file: &[u8]) -> Result<Vec<Unit>, Refusal>
 }
 
 /// The units of a source file, in their order, or its first refusal: by its lines and their nesting,
-/// then `BadLine` at the first line with a construct that is not built, then the first jump that may
-/// not go where it goes. It takes memory in proportion to the file, and so much time, but for the sets
-/// of line numbers in which jumps are looked up.
+/// then `BadLine` at the first line with a construct that is not built, then the first line at which a
+/// rule is broken, unit by unit. It takes memory in proportion to the file, and so much time, but for
+/// the tables in which names and line numbers are looked up.
 #[tactic(auto, using(crate::proofs::Accepting::has_sound_program))]
 pub fn accepted(alloc: Global, file: &[u8]) -> Result<Vec<Unit>, Refusal>
     ensures found { IfOk result (λ units. IsAccepted file.now (map unit_tree units.items)) }

@@ -16,8 +16,6 @@ mod genexpr;
 #[cfg(test)]
 mod image;
 #[cfg(test)]
-mod jump;
-#[cfg(test)]
 mod run;
 #[cfg(test)]
 mod text;
