@@ -1,23 +1,21 @@
 //! A tree of each family, read from text, and the accessors on it.
 
+use crate::cases::{Text, check, check_text};
 use crate::expr::{cond_of, expr_of, nested};
-use bas_ast::{LineItem, Unit};
+use crate::kind::item_of;
+use bas_ast::{Expr, Unit};
 use bas_block::units_of;
-use bas_dec::Dec;
-use bas_line::line_item;
 use std::alloc::Global;
-use std::fmt::Write;
-use std::test::Fail;
 
 /// Each expression, whether it is an operand alone, and the value that its digits alone have.
-const DIGITS: [(&str, bool, Option<(i128, u8)>); 3] = [
+static DIGITS: [(&str, bool, Option<(i128, u8)>); 3] = [
     ("12", true, Some((12, 0))),
     ("12.", true, None),
     ("-12", false, None),
 ];
 
 /// Each line, and whether it is a remark.
-const LINES: [(&str, bool); 4] = [
+static LINES: [(&str, bool); 4] = [
     (
         "IF NOT 1 = 1 THEN READ #1, NEXT, IF MISSING THEN 100: A ELSE 100",
         false,
@@ -29,7 +27,7 @@ const LINES: [(&str, bool); 4] = [
 
 /// Each file, and the names of its units, each with the line at which its first statement begins where it is
 /// a program that has one.
-const UNITS: [(&str, &str); 2] = [
+static UNITS: [(&str, &str); 2] = [
     (
         "10 PROGRAM Rates\n20 END\n30 EXTERNAL SUB Rates(#1)\n40 END SUB\n50 MODULE Rates\n60 END MODULE\n",
         "RATES RATES RATES ",
@@ -37,45 +35,79 @@ const UNITS: [(&str, &str); 2] = [
     ("30 DO WHILE 1 = 1\n40 LOOP\n50 END\n", "MAIN30 "),
 ];
 
-#[test]
-fn digits_of_an_expression(rt: HostRuntime) -> Result<(), Fail> {
-    for (text, alone, wanted) in DIGITS {
-        let (e, _) = expr_of(rt.alloc(), text.as_bytes())?.ok_or("no expression")?;
-        assert_eq!(rt; e.lone_primary().is_some(), alone);
-        assert_eq!(rt; e.digits().map(Dec::parts), wanted);
+// Whether the text is an operand alone, where it is an expression.
+fn is_alone(alloc: Global, text: &str) -> Option<bool> {
+    match expr_of(alloc, text.as_bytes()) {
+        Ok((e, _)) => Some(e.lone_primary().is_some()),
+        Err(_) => None,
     }
-    Ok(())
+}
+
+fn digits(e: &Expr) -> Option<(i128, u8)> {
+    Some(e.digits()?.parts())
+}
+
+// The value that the digits of an expression alone have.
+fn digits_of(alloc: Global, text: &str) -> Option<(i128, u8)> {
+    match expr_of(alloc, text.as_bytes()) {
+        Ok((e, _)) => digits(&e),
+        Err(_) => None,
+    }
 }
 
 #[test]
-fn deep_expressions_are_dropped(rt: HostRuntime) -> Result<(), Fail> {
-    let text = nested(rt.alloc(), 64, '1')?;
-    let (e, _) = expr_of(rt.alloc(), text.as_bytes())?.ok_or("no expression")?;
-    assert!(rt; e.digits().is_none());
-    Ok(())
+fn digits_of_an_expression(rt: HostRuntime) {
+    for (text, alone, wanted) in &DIGITS {
+        check(&rt, text, is_alone(rt.alloc(), text) == Some(*alone));
+        check(&rt, text, digits_of(rt.alloc(), text) == *wanted);
+    }
+}
+
+// Whether one digit in so many parentheses is an expression that has not only digits.
+fn nests(alloc: Global, times: usize) -> bool {
+    let text = nested(alloc, times, "1");
+    match expr_of(alloc, text.as_str().as_bytes()) {
+        Ok((e, _)) => e.digits().is_none(),
+        Err(_) => false,
+    }
 }
 
 #[test]
-fn deep_conditions_are_dropped(rt: HostRuntime) -> Result<(), Fail> {
-    let mut text = String::new(rt.alloc());
-    for _ in 0..1000 {
-        text.push_str("NOT ")?;
+fn deep_expressions_are_dropped(rt: HostRuntime) {
+    assert!(rt; nests(rt.alloc(), 64));
+}
+
+// The tokens of a comparison behind so many words `NOT`, where that is a condition.
+fn tokens_behind(alloc: Global, words: u32) -> Option<usize> {
+    let mut text = Text::new(alloc);
+    for _ in 0..words {
+        text.put("NOT ");
     }
-    text.push_str("1=1")?;
-    let (_, end) = cond_of(rt.alloc(), text.as_bytes())?.ok_or("no condition")?;
-    assert_eq!(rt; end, 1003);
-    Ok(())
+    text.put("1=1");
+    match cond_of(alloc, text.as_str().as_bytes()) {
+        Ok((_, end)) => Some(end),
+        Err(_) => None,
+    }
 }
 
 #[test]
-fn lines_and_remarks(rt: HostRuntime) -> Result<(), Fail> {
-    for (line, wanted) in LINES {
-        let item = line_item(rt.alloc(), line.as_bytes())
-            .ok()
-            .ok_or("an item")?;
-        assert_eq!(rt; item.is_remark(), wanted);
+fn deep_conditions_are_dropped(rt: HostRuntime) {
+    assert!(rt; tokens_behind(rt.alloc(), 1000) == Some(1003));
+}
+
+// Whether the line is a remark, where it has an item.
+fn is_remark(alloc: Global, line: &str) -> Option<bool> {
+    match item_of(alloc, line.as_bytes()) {
+        Ok(item) => Some(item.is_remark()),
+        Err(_) => None,
     }
-    Ok(())
+}
+
+#[test]
+fn lines_and_remarks(rt: HostRuntime) {
+    for (line, wanted) in &LINES {
+        check(&rt, line, is_remark(rt.alloc(), line) == Some(*wanted));
+    }
 }
 
 // The number of the line at which the program's first statement begins.
@@ -87,26 +119,36 @@ fn first_line(unit: &Unit) -> Option<u32> {
     Some(stmt.first_line().number())
 }
 
-// The name of each unit, and the line at which its first statement begins, if it is a program.
-fn shown(alloc: Global, file: &[u8]) -> Result<String, Fail> {
-    let mut text = String::new(alloc);
-    for unit in units_of(alloc, file).ok().ok_or("units")?.as_slice() {
-        for byte in unit.name().ok_or("a name")?.bytes() {
-            text.push(*byte as char)?;
-        }
-        match first_line(unit) {
-            Some(line) => write!(text, "{line} ")?,
-            None => text.push(' ')?,
-        }
+// The name of a unit, and the line at which its first statement begins, if it is a program.
+fn put_unit(text: &mut Text, unit: &Unit) {
+    match unit.name() {
+        Some(name) => text.put_bytes(name.bytes()),
+        None => text.put("no name"),
     }
-    Ok(text)
+    if let Some(line) = first_line(unit) {
+        text.put_number(i128::from(line));
+    }
+    text.put(" ");
+}
+
+fn put_units(text: &mut Text, units: &[Unit]) {
+    for unit in units {
+        put_unit(text, unit);
+    }
+}
+
+fn shown(alloc: Global, file: &str) -> Text {
+    let mut text = Text::new(alloc);
+    match units_of(alloc, file.as_bytes()) {
+        Ok(units) => put_units(&mut text, units.as_slice()),
+        Err(_) => text.put("no units"),
+    }
+    text
 }
 
 #[test]
-fn units_have_names_and_loops_begin_at_their_first_lines(rt: HostRuntime) -> Result<(), Fail> {
-    for (file, wanted) in UNITS {
-        let found = shown(rt.alloc(), file.as_bytes())?;
-        assert!(rt; found.as_str() == wanted, "{file}: {found}");
+fn units_have_names_and_loops_begin_at_their_first_lines(rt: HostRuntime) {
+    for (file, wanted) in &UNITS {
+        check_text(&rt, file, &shown(rt.alloc(), file), wanted);
     }
-    Ok(())
 }

@@ -1,39 +1,40 @@
 //! Files, and how many units or which fault they have.
 
+use crate::cases::{Text, check_text};
 use crate::file::count_of;
-use std::alloc::{AllocError, Global};
-use std::test::Fail;
+use std::alloc::Global;
+use std::process::Abort;
 
 /// Each file, and how many units it has.
-const UNITS: [(&str, usize); 9] = [
-    ("10 END\n", 1),
-    ("10 REM one\n20 PROGRAM P\n30 END\n40 REM two\n", 1),
+static UNITS: [(&str, &str); 9] = [
+    ("10 END\n", "1"),
+    ("10 REM one\n20 PROGRAM P\n30 END\n40 REM two\n", "1"),
     (
         "10 LET A = 1 + &\n& 2\n20 PR&\n&INT \"a&\n&b\"\n30 END\n",
-        1,
+        "1",
     ),
-    ("10 PRINT 1\r\n20 END\r\n", 1),
-    ("10 END\n20 END\n", 2),
+    ("10 PRINT 1\r\n20 END\r\n", "1"),
+    ("10 END\n20 END\n", "2"),
     (
         "10 MODULE M\n20 LET A = 1\n30 EXTERNAL SUB S\n40 END SUB\n50 REM\n60 END MODULE\n",
-        1,
+        "1",
     ),
     (
         "10 EXTERNAL FUNCTION F(X)\n20 LET F = X\n30 END FUNCTION\n",
-        1,
+        "1",
     ),
     (
         "10 WHEN EXCEPTION IN\n20 WHEN EXCEPTION IN\n30 USE\n40 END WHEN\n50 USE\n60 END WHEN\n70 END\n",
-        1,
+        "1",
     ),
     (
         "10 SELECT CASE A\n20 REM\n30 CASE ELSE\n40 END SELECT\n50 END\n",
-        1,
+        "1",
     ),
 ];
 
 /// Each file, and its fault.
-const FAULTS: [(&str, &str); 23] = [
+static FAULTS: [(&str, &str); 23] = [
     (
         "10 IF A = 0 THEN\n20 DO\n30 END IF\n40 LOOP\n50 END\n",
         "BadNest(Line { number: 30 })",
@@ -89,73 +90,73 @@ const FAULTS: [(&str, &str); 23] = [
     ),
 ];
 
-// The fault of a file, as it is shown.
-fn fault_of(alloc: Global, file: &[u8]) -> Result<String, AllocError> {
-    match count_of(alloc, file).err() {
-        Some(fault) => format!(in alloc; "{fault:?}"),
-        None => format!(in alloc; "none"),
+/// The bytes of a line, and what its file is read as.
+static LENGTHS: [(usize, &str); 2] = [(4096, "1"), (4097, "TooLong(2)")];
+
+/// How many blocks stand one in the other, and what their file is read as.
+static DEPTHS: [(u32, &str); 2] = [(64, "1"), (65, "BadNest(Line { number: 164 })")];
+
+// The number of the file's units, or its fault.
+fn shown(alloc: Global, file: &str) -> Text {
+    let mut text = Text::new(alloc);
+    match count_of(alloc, file.as_bytes()) {
+        Ok(count) => text.put_number(count as i128),
+        Err(fault) => text.put_value(&fault),
+    }
+    text
+}
+
+fn check_files(rt: &impl Abort, alloc: Global, cases: &[(&str, &str)]) {
+    for (file, wanted) in cases {
+        check_text(rt, file, &shown(alloc, file), wanted);
     }
 }
 
 // A line of so many bytes, behind another one.
-fn with_line_of(alloc: Global, bytes: usize) -> Result<Vec<u8>, AllocError> {
-    let mut file = Vec::new(alloc);
-    file.extend_from_slice(b"10 REM\n20 END")?;
+fn with_line_of(alloc: Global, bytes: usize) -> Text {
+    let mut file = Text::new(alloc);
+    file.put("10 REM\n20 END");
     for _ in 6..bytes {
-        file.push(b' ')?;
+        file.put(" ");
     }
-    Ok(file)
+    file
 }
 
-// So many blocks, one in the other, in lines 1, 2, ..
-fn with_blocks(alloc: Global, blocks: u8) -> Result<Vec<u8>, AllocError> {
-    let mut file = Vec::new(alloc);
-    for number in 100..100 + u32::from(blocks) {
-        let line = format!(in alloc; "{number} DO\n")?;
-        file.extend_from_slice(line.as_bytes())?;
+// So many blocks, one in the other.
+fn with_blocks(alloc: Global, blocks: u32) -> Text {
+    let mut file = Text::new(alloc);
+    for number in 100..100u32.saturating_add(blocks) {
+        file.put_line(number, "DO");
     }
-    for number in 300..300 + u32::from(blocks) {
-        let line = format!(in alloc; "{number} LOOP\n")?;
-        file.extend_from_slice(line.as_bytes())?;
+    for number in 300..300u32.saturating_add(blocks) {
+        file.put_line(number, "LOOP");
     }
-    file.extend_from_slice(b"999 END\n")?;
-    Ok(file)
-}
-
-#[test]
-fn files_have_units(rt: HostRuntime) -> Result<(), Fail> {
-    for (file, count) in UNITS {
-        let found = count_of(rt.alloc(), file.as_bytes()).ok();
-        assert!(rt; found == Some(count), "{file}");
-    }
-    Ok(())
+    file.put_line(999, "END");
+    file
 }
 
 #[test]
-fn files_have_faults(rt: HostRuntime) -> Result<(), Fail> {
-    for (file, fault) in FAULTS {
-        let found = fault_of(rt.alloc(), file.as_bytes())?;
-        assert!(rt; found.as_bytes() == fault.as_bytes(), "{file}");
+fn files_have_units(rt: HostRuntime) {
+    check_files(&rt, rt.alloc(), &UNITS);
+}
+
+#[test]
+fn files_have_faults(rt: HostRuntime) {
+    check_files(&rt, rt.alloc(), &FAULTS);
+}
+
+#[test]
+fn lines_have_4096_bytes_at_most(rt: HostRuntime) {
+    for (bytes, wanted) in &LENGTHS {
+        let file = with_line_of(rt.alloc(), *bytes);
+        check_text(&rt, wanted, &shown(rt.alloc(), file.as_str()), wanted);
     }
-    Ok(())
 }
 
 #[test]
-fn lines_have_4096_bytes_at_most(rt: HostRuntime) -> Result<(), Fail> {
-    let longest = with_line_of(rt.alloc(), 4096)?;
-    let longer = with_line_of(rt.alloc(), 4097)?;
-    assert!(rt; count_of(rt.alloc(), &longest).ok() == Some(1));
-    assert!(rt; fault_of(rt.alloc(), &longer)?.as_bytes() == b"TooLong(2)".as_slice());
-    Ok(())
-}
-
-#[test]
-fn blocks_are_64_deep_at_most(rt: HostRuntime) -> Result<(), Fail> {
-    let deepest = with_blocks(rt.alloc(), 64)?;
-    let deeper = with_blocks(rt.alloc(), 65)?;
-    assert!(rt; count_of(rt.alloc(), &deepest).ok() == Some(1));
-    assert!(rt;
-        fault_of(rt.alloc(), &deeper)?.as_bytes() == b"BadNest(Line { number: 164 })".as_slice()
-    );
-    Ok(())
+fn blocks_are_64_deep_at_most(rt: HostRuntime) {
+    for (blocks, wanted) in &DEPTHS {
+        let file = with_blocks(rt.alloc(), *blocks);
+        check_text(&rt, wanted, &shown(rt.alloc(), file.as_str()), wanted);
+    }
 }

@@ -1,11 +1,12 @@
 //! Lines of data.
 
+use crate::cases::{Text, check_text};
 use bas_data::{data, data_word};
+use bas_text::Datum;
 use std::alloc::Global;
-use std::test::Fail;
 
 /// Each line with its items, each behind a bar, and `q` before one in quotes; or `none`; or `other`.
-const LINES: [(&str, &str); 18] = [
+static LINES: [(&str, &str); 18] = [
     ("DATA", "|"),
     ("  data 1, 2", "|1|2"),
     ("DATA,", "||"),
@@ -26,32 +27,40 @@ const LINES: [(&str, &str); 18] = [
     ("X DATA", "other"),
 ];
 
-fn shown(alloc: Global, line: &[u8]) -> Result<Vec<u8>, Fail> {
-    let mut out = Vec::new(alloc);
-    let Some(behind) = data_word(line) else {
-        out.extend_from_slice(b"other")?;
-        return Ok(out);
-    };
-    match data(alloc, &line[behind..])? {
-        None => out.extend_from_slice(b"none")?,
-        Some(items) => {
-            for item in items.items() {
-                out.push(b'|')?;
-                if item.quoted {
-                    out.push(b'q')?;
-                }
-                out.extend_from_slice(item.text.bytes())?;
-            }
-        }
+fn put_item(text: &mut Text, item: &Datum) {
+    text.put("|");
+    if item.quoted {
+        text.put("q");
     }
-    Ok(out)
+    text.put_bytes(item.text.bytes());
+}
+
+fn put_items(text: &mut Text, items: &[Datum]) {
+    for item in items {
+        put_item(text, item);
+    }
+}
+
+fn put_data(text: &mut Text, alloc: Global, behind: &[u8]) {
+    match data(alloc, behind) {
+        Ok(Some(items)) => put_items(text, items.items()),
+        Ok(None) => text.put("none"),
+        Err(_) => text.put("no memory"),
+    }
+}
+
+fn shown(alloc: Global, line: &[u8]) -> Text {
+    let mut text = Text::new(alloc);
+    match data_word(line) {
+        Some(behind) => put_data(&mut text, alloc, &line[behind..]),
+        None => text.put("other"),
+    }
+    text
 }
 
 #[test]
-fn lines_have_their_data(rt: HostRuntime) -> Result<(), Fail> {
-    for (line, wanted) in LINES {
-        let found = shown(rt.alloc(), line.as_bytes())?;
-        assert!(rt; found.as_slice() == wanted.as_bytes(), "{line}");
+fn lines_have_their_data(rt: HostRuntime) {
+    for (line, wanted) in &LINES {
+        check_text(&rt, line, &shown(rt.alloc(), line.as_bytes()), wanted);
     }
-    Ok(())
 }

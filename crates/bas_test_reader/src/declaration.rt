@@ -1,9 +1,9 @@
 //! Each alternative, read as a whole line, and refused where a token is missing or another.
 
-use crate::kind::kind_of;
+use crate::kind::check_family;
 
 /// Each text, and whether it is a part.
-const PARTS: [(&str, bool); 76] = [
+static PARTS: [(&str, bool); 76] = [
     ("IF A = 1 THEN", true),
     ("IF A THEN", false),
     ("IF A = 1", false),
@@ -83,7 +83,7 @@ const PARTS: [(&str, bool); 76] = [
 ];
 
 /// Each text, and whether it is a declaration.
-const DECLARATIONS: [(&str, bool); 33] = [
+static DECLARATIONS: [(&str, bool); 33] = [
     ("OPTION BASE 0", true),
     ("OPTION BASE 1", true),
     ("OPTION BASE 2", false),
@@ -121,16 +121,10 @@ const DECLARATIONS: [(&str, bool); 33] = [
 
 #[test]
 fn lines_are_parts(rt: HostRuntime) {
-    for (line, wanted) in PARTS {
-        let found = kind_of(rt.alloc(), line.as_bytes()).family == "part";
-        assert!(rt; found == wanted, "{line}");
-    }
+    check_family(&rt, rt.alloc(), "part", &PARTS);
 }
 
 #[test]
 fn lines_are_declarations(rt: HostRuntime) {
-    for (line, wanted) in DECLARATIONS {
-        let found = kind_of(rt.alloc(), line.as_bytes()).family == "declaration";
-        assert!(rt; found == wanted, "{line}");
-    }
+    check_family(&rt, rt.alloc(), "declaration", &DECLARATIONS);
 }

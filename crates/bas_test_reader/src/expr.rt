@@ -1,5 +1,6 @@
 //! Expressions and conditions, written with a parenthesis for each step of their meaning.
 
+use crate::cases::{Text, check_text};
 use bas_ast::{
     Actual, Cond, Conj, Expr, Factor, FactorSign, Numeral, Primary, Rel, Sign, Target, Term,
     TermSign, Test,
@@ -7,14 +8,13 @@ use bas_ast::{
 use bas_expr::{ExprFault, cond, expr};
 use bas_token::tokens;
 use std::alloc::Global;
-use std::fmt::Write;
-use std::test::Fail;
+use std::process::Abort;
 
 /// Each text with the tree of its longest expression and the number of tokens in it, or `?`.
 ///
 /// `[..]` are arguments or subscripts, `{..}` the ends of a substring, `<..>` parentheses; a numeral
 /// that has more than digits is its coefficient and its places.
-const OPERATORS: [(&str, &str); 26] = [
+static OPERATORS: [(&str, &str); 26] = [
     ("1e-2", "1/2 1"),
     ("-2^2", "(-(2^2)) 4"),
     ("+A", "(+A) 2"),
@@ -43,7 +43,7 @@ const OPERATORS: [(&str, &str); 26] = [
     ("1 2", "1 1"),
 ];
 
-const OPERANDS: [(&str, &str); 19] = [
+static OPERANDS: [(&str, &str); 19] = [
     ("", "?"),
     ("1", "1 1"),
     ("007", "7 1"),
@@ -65,7 +65,7 @@ const OPERANDS: [(&str, &str); 19] = [
     ("1.", "1/0 1"),
 ];
 
-const LISTS: [(&str, &str); 21] = [
+static LISTS: [(&str, &str); 21] = [
     ("F(1)", "F[1] 4"),
     ("F(1,2,3)", "F[1,2,3] 8"),
     ("F(#1)", "F[#1] 5"),
@@ -89,7 +89,7 @@ const LISTS: [(&str, &str); 21] = [
     ("REM", "?"),
 ];
 
-const SUBSTRINGS: [(&str, &str); 16] = [
+static SUBSTRINGS: [(&str, &str); 16] = [
     ("A$(1:2)", "A${1:2} 6"),
     ("A$(I+1:LEN(A$))", "A${(I+1):LEN[A$]} 11"),
     ("A$(1)(2:3)", "A$[1]{2:3} 9"),
@@ -111,7 +111,7 @@ const SUBSTRINGS: [(&str, &str); 16] = [
 /// Each text with the tree of its longest condition and the number of tokens in it, or `?`.
 ///
 /// `{..}` are parentheses.
-const CONDITIONS: [(&str, &str); 26] = [
+static CONDITIONS: [(&str, &str); 26] = [
     ("A = B", "A=B 3"),
     ("A<>B", "A<>B 3"),
     ("A><B", "A<>B 3"),
@@ -143,100 +143,89 @@ const CONDITIONS: [(&str, &str); 26] = [
     ("AND = OR AND OR = AND", "[AND=OR and OR=AND] 7"),
 ];
 
-fn put_bytes(out: &mut String, bytes: &[u8]) -> Result<(), Fail> {
-    for byte in bytes {
-        out.push(*byte as char)?;
-    }
-    Ok(())
-}
-
-fn put_opening(out: &mut String, times: usize) -> Result<(), Fail> {
+fn put_opening(out: &mut Text, times: usize) {
     for _ in 0..times {
-        out.push('(')?;
+        out.put("(");
     }
-    Ok(())
 }
 
-fn put_numeral(out: &mut String, numeral: Numeral) -> Result<(), Fail> {
-    let (coefficient, places) = numeral.value.parts();
-    write!(out, "{coefficient}")?;
-    if !numeral.digits {
-        write!(out, "/{places}")?;
+fn put_separator(out: &mut Text, is_first: bool) {
+    if is_first {
+        out.put("[");
+    } else {
+        out.put(",");
     }
-    Ok(())
+}
+
+fn put_numeral(out: &mut Text, numeral: Numeral) {
+    let (coefficient, places) = numeral.value.parts();
+    out.put_number(coefficient);
+    if !numeral.digits {
+        out.put("/");
+        out.put_number(i128::from(places));
+    }
 }
 
 #[cycle(put)]
-fn put_exprs(out: &mut String, exprs: &[Expr], fuel: u32) -> Result<(), Fail> {
-    let mut separator = '[';
+fn put_exprs(out: &mut Text, exprs: &[Expr], fuel: u32) {
+    let mut is_first = true;
     for value in exprs {
-        out.push(separator)?;
-        put_expr(out, value, fuel)?;
-        separator = ',';
+        put_separator(out, is_first);
+        put_expr(out, value, fuel);
+        is_first = false;
     }
     if !exprs.is_empty() {
-        out.push(']')?;
+        out.put("]");
     }
-    Ok(())
 }
 
 #[cycle(put)]
-fn put_actuals(out: &mut String, actuals: &[Actual], fuel: u32) -> Result<(), Fail> {
-    let mut separator = '[';
+fn put_actuals(out: &mut Text, actuals: &[Actual], fuel: u32) {
+    let mut is_first = true;
     for actual in actuals {
-        out.push(separator)?;
+        put_separator(out, is_first);
         match actual {
-            Actual::Expr(value) => put_expr(out, value, fuel)?,
+            Actual::Expr(value) => put_expr(out, value, fuel),
             Actual::Chan(number) => {
-                out.push('#')?;
-                put_expr(out, number, fuel)?;
+                out.put("#");
+                put_expr(out, number, fuel);
             }
         }
-        separator = ',';
+        is_first = false;
     }
     if !actuals.is_empty() {
-        out.push(']')?;
+        out.put("]");
     }
-    Ok(())
 }
 
 #[cycle(put)]
-fn put_substring(
-    out: &mut String,
-    target: &Target,
-    first: &Expr,
-    last: &Expr,
-    fuel: u32,
-) -> Result<(), Fail> {
-    put_bytes(out, target.name.bytes())?;
-    put_exprs(out, target.subscripts.as_slice(), fuel)?;
-    out.push('{')?;
-    put_expr(out, first, fuel)?;
-    out.push(':')?;
-    put_expr(out, last, fuel)?;
-    out.push('}')?;
-    Ok(())
+fn put_substring(out: &mut Text, target: &Target, first: &Expr, last: &Expr, fuel: u32) {
+    out.put_bytes(target.name.bytes());
+    put_exprs(out, target.subscripts.as_slice(), fuel);
+    out.put("{");
+    put_expr(out, first, fuel);
+    out.put(":");
+    put_expr(out, last, fuel);
+    out.put("}");
 }
 
 #[cycle(put)]
-fn put_primary(out: &mut String, primary: &Primary, fuel: u32) -> Result<(), Fail> {
+fn put_primary(out: &mut Text, primary: &Primary, fuel: u32) {
     match primary {
         Primary::Numeral(numeral) => put_numeral(out, *numeral),
         Primary::Quoted(text) => {
-            out.push('"')?;
-            put_bytes(out, text.bytes())?;
-            out.push('"')?;
-            Ok(())
+            out.put("\"");
+            out.put_bytes(text.bytes());
+            out.put("\"");
         }
         Primary::Group(inner) => {
-            out.push('<')?;
-            put_expr(out, inner.get(), fuel)?;
-            out.push('>')?;
-            Ok(())
+            out.put("<");
+            put_expr(out, inner.get(), fuel);
+            out.put(">");
         }
         Primary::Name(name, args) => {
-            put_bytes(out, name.bytes())?;
-            put_actuals(out, args.actuals.as_slice(), fuel)
+            out.put_bytes(name.bytes());
+            put_actuals(out, args.actuals.as_slice(), fuel);
         }
         Primary::Substring(target, first, last) => put_substring(
             out,
@@ -249,74 +238,70 @@ fn put_primary(out: &mut String, primary: &Primary, fuel: u32) -> Result<(), Fai
 }
 
 #[cycle(put)]
-fn put_factor(out: &mut String, factor: &Factor, fuel: u32) -> Result<(), Fail> {
+fn put_factor(out: &mut Text, factor: &Factor, fuel: u32) {
     let exponents = factor.exponents.as_slice();
-    put_opening(out, exponents.len())?;
-    put_primary(out, &factor.base, fuel)?;
+    put_opening(out, exponents.len());
+    put_primary(out, &factor.base, fuel);
     for exponent in exponents {
-        out.push('^')?;
-        put_primary(out, exponent, fuel)?;
-        out.push(')')?;
+        out.put("^");
+        put_primary(out, exponent, fuel);
+        out.put(")");
     }
-    Ok(())
 }
 
-fn factor_sign(sign: FactorSign) -> char {
+fn factor_sign(sign: FactorSign) -> &'static str {
     match sign {
-        FactorSign::Multiply => '*',
-        FactorSign::Divide => '/',
+        FactorSign::Multiply => "*",
+        FactorSign::Divide => "/",
     }
 }
 
 #[cycle(put)]
-fn put_term(out: &mut String, term: &Term, fuel: u32) -> Result<(), Fail> {
+fn put_term(out: &mut Text, term: &Term, fuel: u32) {
     let rest = term.rest.as_slice();
-    put_opening(out, rest.len())?;
-    put_factor(out, &term.first, fuel)?;
+    put_opening(out, rest.len());
+    put_factor(out, &term.first, fuel);
     for (sign, factor) in rest {
-        out.push(factor_sign(*sign))?;
-        put_factor(out, factor, fuel)?;
-        out.push(')')?;
+        out.put(factor_sign(*sign));
+        put_factor(out, factor, fuel);
+        out.put(")");
     }
-    Ok(())
 }
 
-fn term_sign(sign: TermSign) -> char {
+fn term_sign(sign: TermSign) -> &'static str {
     match sign {
-        TermSign::Add => '+',
-        TermSign::Subtract => '-',
-        TermSign::Join => '&',
+        TermSign::Add => "+",
+        TermSign::Subtract => "-",
+        TermSign::Join => "&",
     }
 }
 
 #[cycle(put)]
-fn put_signed(out: &mut String, sign: Option<Sign>, term: &Term, fuel: u32) -> Result<(), Fail> {
+fn put_signed(out: &mut Text, sign: Option<Sign>, term: &Term, fuel: u32) {
     match sign {
-        Some(Sign::Plus) => out.push_str("(+")?,
-        Some(Sign::Minus) => out.push_str("(-")?,
+        Some(Sign::Plus) => out.put("(+"),
+        Some(Sign::Minus) => out.put("(-"),
         None => {}
     }
-    put_term(out, term, fuel)?;
+    put_term(out, term, fuel);
     if sign.is_some() {
-        out.push(')')?;
+        out.put(")");
     }
-    Ok(())
 }
 
 #[cycle(put)]
-fn put_expr(out: &mut String, value: &Expr, fuel: u32) -> Result<(), Fail> {
+fn put_expr(out: &mut Text, value: &Expr, fuel: u32) {
     if fuel == 0 {
-        return Ok(());
+        return;
     }
     let rest = value.rest.as_slice();
-    put_opening(out, rest.len())?;
-    put_signed(out, value.sign, value.first.get(), fuel - 1)?;
+    put_opening(out, rest.len());
+    put_signed(out, value.sign, value.first.get(), fuel - 1);
     for (sign, term) in rest {
-        out.push(term_sign(*sign))?;
-        put_term(out, term, fuel - 1)?;
-        out.push(')')?;
+        out.put(term_sign(*sign));
+        put_term(out, term, fuel - 1);
+        out.put(")");
     }
-    Ok(())
 }
 
 fn rel_text(rel: Rel) -> &'static str {
@@ -331,181 +316,177 @@ fn rel_text(rel: Rel) -> &'static str {
 }
 
 #[cycle(put_cond)]
-fn put_test(out: &mut String, test: &Test, fuel: u32) -> Result<(), Fail> {
+fn put_test(out: &mut Text, test: &Test, fuel: u32) {
     if fuel == 0 {
-        return Ok(());
+        return;
     }
     match test {
         Test::Not(inner) => {
-            out.push_str("not ")?;
-            put_test(out, inner.get(), fuel - 1)
+            out.put("not ");
+            put_test(out, inner.get(), fuel - 1);
         }
         Test::Group(inner) => {
-            out.push('{')?;
-            put_cond(out, inner.get(), fuel - 1)?;
-            out.push('}')?;
-            Ok(())
+            out.put("{");
+            put_cond(out, inner.get(), fuel - 1);
+            out.put("}");
         }
         Test::Compare(left, rel, right) => {
-            put_expr(out, left, 100)?;
-            out.push_str(rel_text(*rel))?;
-            put_expr(out, right, 100)
+            put_expr(out, left, 100);
+            out.put(rel_text(*rel));
+            put_expr(out, right, 100);
         }
     }
 }
 
 #[cycle(put_cond)]
-fn put_conj(out: &mut String, conj: &Conj, fuel: u32) -> Result<(), Fail> {
+fn put_conj(out: &mut Text, conj: &Conj, fuel: u32) {
     let rest = conj.rest.as_slice();
     if !rest.is_empty() {
-        out.push('[')?;
+        out.put("[");
     }
-    put_test(out, &conj.first, fuel)?;
+    put_test(out, &conj.first, fuel);
     for test in rest {
-        out.push_str(" and ")?;
-        put_test(out, test, fuel)?;
+        out.put(" and ");
+        put_test(out, test, fuel);
     }
     if !rest.is_empty() {
-        out.push(']')?;
+        out.put("]");
     }
-    Ok(())
 }
 
 #[cycle(put_cond)]
-fn put_cond(out: &mut String, cond: &Cond, fuel: u32) -> Result<(), Fail> {
+fn put_cond(out: &mut Text, cond: &Cond, fuel: u32) {
     let rest = cond.rest.as_slice();
     if !rest.is_empty() {
-        out.push('[')?;
+        out.put("[");
     }
-    put_conj(out, &cond.first, fuel)?;
+    put_conj(out, &cond.first, fuel);
     for conj in rest {
-        out.push_str(" or ")?;
-        put_conj(out, conj, fuel)?;
+        out.put(" or ");
+        put_conj(out, conj, fuel);
     }
     if !rest.is_empty() {
-        out.push(']')?;
+        out.put("]");
     }
-    Ok(())
 }
 
-fn put_end(out: &mut String, next: usize) -> Result<(), Fail> {
-    write!(out, " {next}")?;
-    Ok(())
+fn put_end(out: &mut Text, next: usize) {
+    out.put(" ");
+    out.put_number(next as i128);
 }
 
 /// The longest expression at the beginning of the line, and the number of its tokens.
+///
+/// Errors: `NotExpr` where there is none, and `Memory` where the line is too long, has no tokens or memory
+/// runs out.
 #[tactic(auto, using(bas_expr::proofs::TokenLaws::tokens_lie, bas_expr::proofs::TokenLaws::few_tokens))]
-pub fn expr_of(alloc: Global, line: &[u8]) -> Result<Option<(Expr, usize)>, Fail> {
+pub fn expr_of(alloc: Global, line: &[u8]) -> Result<(Expr, usize), ExprFault> {
     if line.len() > 4096 {
-        return Err("too long")?;
+        return Err(ExprFault::Memory);
     }
-    let found = tokens(alloc, line)?;
-    match expr(alloc, line, found.as_slice(), 0) {
-        Ok(found) => Ok(Some(found)),
-        Err(ExprFault::NotExpr { at: _ }) => Ok(None),
-        Err(ExprFault::Memory) => Err("no memory")?,
+    match tokens(alloc, line) {
+        Ok(found) => expr(alloc, line, found.as_slice(), 0),
+        Err(_) => Err(ExprFault::Memory),
     }
 }
 
 /// The longest condition at the beginning of the line, and the number of its tokens.
+///
+/// Errors: `NotExpr` where there is none, and `Memory` where the line is too long, has no tokens or memory
+/// runs out.
 #[tactic(auto, using(bas_expr::proofs::TokenLaws::tokens_lie, bas_expr::proofs::TokenLaws::few_tokens))]
-pub fn cond_of(alloc: Global, line: &[u8]) -> Result<Option<(Cond, usize)>, Fail> {
+pub fn cond_of(alloc: Global, line: &[u8]) -> Result<(Cond, usize), ExprFault> {
     if line.len() > 4096 {
-        return Err("too long")?;
+        return Err(ExprFault::Memory);
     }
-    let found = tokens(alloc, line)?;
-    match cond(alloc, line, found.as_slice(), 0) {
-        Ok(found) => Ok(Some(found)),
-        Err(ExprFault::NotExpr { at: _ }) => Ok(None),
-        Err(ExprFault::Memory) => Err("no memory")?,
+    match tokens(alloc, line) {
+        Ok(found) => cond(alloc, line, found.as_slice(), 0),
+        Err(_) => Err(ExprFault::Memory),
     }
 }
 
-fn shown_expr(alloc: Global, line: &[u8]) -> Result<String, Fail> {
-    let mut text = String::new(alloc);
-    match expr_of(alloc, line)? {
-        Some((value, next)) => {
-            put_expr(&mut text, &value, 100)?;
-            put_end(&mut text, next)?;
+fn put_fault(out: &mut Text, fault: ExprFault) {
+    match fault {
+        ExprFault::NotExpr { at: _ } => out.put("?"),
+        ExprFault::Memory => out.put("no memory"),
+    }
+}
+
+fn shown_expr(alloc: Global, line: &str) -> Text {
+    let mut text = Text::new(alloc);
+    match expr_of(alloc, line.as_bytes()) {
+        Ok((value, next)) => {
+            put_expr(&mut text, &value, 100);
+            put_end(&mut text, next);
         }
-        None => text.push('?')?,
+        Err(fault) => put_fault(&mut text, fault),
     }
-    Ok(text)
+    text
 }
 
-fn shown_cond(alloc: Global, line: &[u8]) -> Result<String, Fail> {
-    let mut text = String::new(alloc);
-    match cond_of(alloc, line)? {
-        Some((value, next)) => {
-            put_cond(&mut text, &value, 100)?;
-            put_end(&mut text, next)?;
+fn shown_cond(alloc: Global, line: &str) -> Text {
+    let mut text = Text::new(alloc);
+    match cond_of(alloc, line.as_bytes()) {
+        Ok((value, next)) => {
+            put_cond(&mut text, &value, 100);
+            put_end(&mut text, next);
         }
-        None => text.push('?')?,
+        Err(fault) => put_fault(&mut text, fault),
     }
-    Ok(text)
+    text
+}
+
+fn check_exprs(rt: &impl Abort, alloc: Global, cases: &[(&str, &str)]) {
+    for (line, wanted) in cases {
+        check_text(rt, line, &shown_expr(alloc, line), wanted);
+    }
 }
 
 #[test]
-fn operators_group_by_rank_and_from_the_left(rt: HostRuntime) -> Result<(), Fail> {
-    for (line, wanted) in OPERATORS {
-        let text = shown_expr(rt.alloc(), line.as_bytes())?;
-        assert!(rt; text.as_str() == wanted, "{line}: {text}");
-    }
-    Ok(())
+fn operators_group_by_rank_and_from_the_left(rt: HostRuntime) {
+    check_exprs(&rt, rt.alloc(), &OPERATORS);
 }
 
 #[test]
-fn operands_stand_by_value(rt: HostRuntime) -> Result<(), Fail> {
-    for (line, wanted) in OPERANDS {
-        let text = shown_expr(rt.alloc(), line.as_bytes())?;
-        assert!(rt; text.as_str() == wanted, "{line}: {text}");
-    }
-    Ok(())
+fn operands_stand_by_value(rt: HostRuntime) {
+    check_exprs(&rt, rt.alloc(), &OPERANDS);
 }
 
 #[test]
-fn names_have_arguments(rt: HostRuntime) -> Result<(), Fail> {
-    for (line, wanted) in LISTS {
-        let text = shown_expr(rt.alloc(), line.as_bytes())?;
-        assert!(rt; text.as_str() == wanted, "{line}: {text}");
-    }
-    Ok(())
+fn names_have_arguments(rt: HostRuntime) {
+    check_exprs(&rt, rt.alloc(), &LISTS);
 }
 
 #[test]
-fn substrings_are_of_variables_and_elements(rt: HostRuntime) -> Result<(), Fail> {
-    for (line, wanted) in SUBSTRINGS {
-        let text = shown_expr(rt.alloc(), line.as_bytes())?;
-        assert!(rt; text.as_str() == wanted, "{line}: {text}");
-    }
-    Ok(())
+fn substrings_are_of_variables_and_elements(rt: HostRuntime) {
+    check_exprs(&rt, rt.alloc(), &SUBSTRINGS);
 }
 
 #[test]
-fn texts_have_their_longest_conditions(rt: HostRuntime) -> Result<(), Fail> {
-    for (line, wanted) in CONDITIONS {
-        let text = shown_cond(rt.alloc(), line.as_bytes())?;
-        assert!(rt; text.as_str() == wanted, "{line}: {text}");
+fn texts_have_their_longest_conditions(rt: HostRuntime) {
+    for (line, wanted) in &CONDITIONS {
+        check_text(&rt, line, &shown_cond(rt.alloc(), line), wanted);
     }
-    Ok(())
 }
 
 /// An operand in so many parentheses.
-pub fn nested(alloc: Global, times: usize, operand: char) -> Result<String, Fail> {
-    let mut text = String::new(alloc);
-    put_opening(&mut text, times)?;
-    text.push(operand)?;
+pub fn nested(alloc: Global, times: usize, operand: &str) -> Text {
+    let mut text = Text::new(alloc);
+    put_opening(&mut text, times);
+    text.put(operand);
     for _ in 0..times {
-        text.push(')')?;
+        text.put(")");
     }
-    Ok(text)
+    text
+}
+
+fn shown_nested(alloc: Global, times: usize) -> Text {
+    let text = nested(alloc, times, "A");
+    shown_expr(alloc, text.as_str())
 }
 
 #[test]
-fn parentheses_nest_64_deep(rt: HostRuntime) -> Result<(), Fail> {
-    let most = nested(rt.alloc(), 64, 'A')?;
-    assert!(rt; shown_expr(rt.alloc(), most.as_bytes())?.ends_with(" 129"));
-    let more = nested(rt.alloc(), 65, 'A')?;
-    assert!(rt; shown_expr(rt.alloc(), more.as_bytes())?.as_str() == "?");
-    Ok(())
+fn parentheses_nest_64_deep(rt: HostRuntime) {
+    assert!(rt; shown_nested(rt.alloc(), 64).as_str().ends_with(" 129"));
+    check_text(&rt, "65 deep", &shown_nested(rt.alloc(), 65), "?");
 }

@@ -1,8 +1,10 @@
 //! What a line is read as, in words.
 
+use crate::cases::check;
 use bas_ast::{Decl, LineItem, Plain, Simple};
 use bas_line::{LineFault, line_item};
 use std::alloc::Global;
+use std::process::Abort;
 
 /// What a line is read as.
 #[derive(Clone, Copy)]
@@ -80,23 +82,37 @@ fn item_kind(item: &LineItem) -> Kind {
     }
 }
 
+/// What stands on the line.
+///
+/// Errors: `NotItem` where nothing does that a line may have, and `Memory` where memory runs out.
+pub fn item_of(alloc: Global, line: &[u8]) -> Result<LineItem, LineFault> {
+    if line.len() > 4096 {
+        return Err(LineFault::NotItem);
+    }
+    line_item(alloc, line)
+}
+
 /// What the line is read as.
 pub fn kind_of(alloc: Global, line: &[u8]) -> Kind {
-    let none = Kind {
-        form: "none",
-        family: "none",
-        statement: "none",
-    };
-    if line.len() > 4096 {
-        return none;
-    }
-    match line_item(alloc, line) {
+    match item_of(alloc, line) {
         Ok(item) => item_kind(&item),
-        Err(LineFault::NotItem) => none,
+        Err(LineFault::NotItem) => Kind {
+            form: "none",
+            family: "none",
+            statement: "none",
+        },
         Err(LineFault::Memory) => Kind {
             form: "no memory",
             family: "no memory",
             statement: "no memory",
         },
+    }
+}
+
+/// Ends the test at a line that is of the family and should not be, or the other way round.
+pub fn check_family(rt: &impl Abort, alloc: Global, family: &str, cases: &[(&str, bool)]) {
+    for (line, wanted) in cases {
+        let found = kind_of(alloc, line.as_bytes()).family == family;
+        check(rt, line, found == *wanted);
     }
 }

@@ -2,13 +2,16 @@
 //!
 //! Each module tests the public calls of one crate, on worked examples whose expected values come from
 //! the rules of the language. `kind` reads a line and tells what it is by a word; the modules of statements,
-//! parts and lists ask it. There is nothing here but tests: the library itself is empty.
+//! parts and lists ask it. `cases` ends a test at a case that does not hold. There is nothing here but tests:
+//! the library itself is empty.
 #![tactic(auto)]
 
 #[cfg(test)]
 mod ast;
 #[cfg(test)]
 mod block;
+#[cfg(test)]
+mod cases;
 #[cfg(test)]
 mod data;
 #[cfg(test)]

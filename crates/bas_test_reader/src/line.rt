@@ -1,12 +1,12 @@
 //! Lines and what they are.
 
-use crate::kind::kind_of;
+use crate::cases::check;
+use crate::kind::{item_of, kind_of};
 use bas_ast::LineItem;
-use bas_line::line_item;
-use std::test::Fail;
+use std::alloc::Global;
 
 /// Each line with what it is.
-const LINES: [(&str, &str); 54] = [
+static LINES: [(&str, &str); 54] = [
     ("", "nothing"),
     ("  ! and no more", "nothing"),
     ("!", "nothing"),
@@ -63,14 +63,6 @@ const LINES: [(&str, &str); 54] = [
     ("DIM A REM", "none"),
 ];
 
-#[test]
-fn lines_are_what_the_grammar_says(rt: HostRuntime) {
-    for (line, wanted) in LINES {
-        let form = kind_of(rt.alloc(), line.as_bytes()).form;
-        assert!(rt; form == wanted, "{line}");
-    }
-}
-
 fn is_remark_of(item: &LineItem, wanted: &[u8]) -> bool {
     match item {
         LineItem::Rem(bytes) => bytes.items() == wanted,
@@ -78,9 +70,25 @@ fn is_remark_of(item: &LineItem, wanted: &[u8]) -> bool {
     }
 }
 
+fn is_remark_line(alloc: Global, line: &[u8], wanted: &[u8]) -> bool {
+    match item_of(alloc, line) {
+        Ok(item) => is_remark_of(&item, wanted),
+        Err(_) => false,
+    }
+}
+
 #[test]
-fn a_remark_keeps_its_bytes(rt: HostRuntime) -> Result<(), Fail> {
-    let item = line_item(rt.alloc(), b"REM\ta \"b ").ok().ok_or("an item")?;
-    assert!(rt; is_remark_of(&item, b" a \"b "));
-    Ok(())
+fn lines_are_what_the_grammar_says(rt: HostRuntime) {
+    for (line, wanted) in &LINES {
+        check(
+            &rt,
+            line,
+            kind_of(rt.alloc(), line.as_bytes()).form == *wanted,
+        );
+    }
+}
+
+#[test]
+fn a_remark_keeps_its_bytes(rt: HostRuntime) {
+    assert!(rt; is_remark_line(rt.alloc(), b"REM\ta \"b ", b" a \"b "));
 }

@@ -1,8 +1,8 @@
 //! Each list, as the end of a line, and refused where a token is missing or another.
 
+use crate::cases::check;
 use crate::kind::kind_of;
-use std::alloc::{AllocError, Global};
-use std::test::Fail;
+use std::alloc::Global;
 
 /// What a text is read as.
 #[derive(Clone, Copy)]
@@ -16,7 +16,7 @@ enum List {
 }
 
 /// Each text, what it is read as, and whether it is one.
-const LISTS: [(&str, List, bool); 33] = [
+static LISTS: [(&str, List, bool); 33] = [
     ("A", List::Targets, true),
     ("a(1, B + 2), C$(I)", List::Targets, true),
     ("A, B, LET", List::Targets, true),
@@ -64,17 +64,16 @@ fn around(list: List) -> (&'static str, &'static str, &'static str) {
     }
 }
 
-fn is_list(alloc: Global, text: &str, list: List) -> Result<bool, AllocError> {
+// Whether the text is such a list, where memory is left to ask.
+fn is_list(alloc: Global, text: &str, list: List) -> Option<bool> {
     let (front, behind, form) = around(list);
-    let line = format!(in alloc; "{front}{text}{behind}")?;
-    Ok(kind_of(alloc, line.as_bytes()).form == form)
+    let line = format!(in alloc; "{front}{text}{behind}").ok()?;
+    Some(kind_of(alloc, line.as_bytes()).form == form)
 }
 
 #[test]
-fn lines_are_lists(rt: HostRuntime) -> Result<(), Fail> {
-    for (text, list, wanted) in LISTS {
-        let found = is_list(rt.alloc(), text, list)?;
-        assert!(rt; found == wanted, "{text}");
+fn lines_are_lists(rt: HostRuntime) {
+    for (text, list, wanted) in &LISTS {
+        check(&rt, text, is_list(rt.alloc(), text, *list) == Some(*wanted));
     }
-    Ok(())
 }

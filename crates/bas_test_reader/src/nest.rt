@@ -1,12 +1,12 @@
 //! Lines by their parts, and how they are read.
 
+use crate::cases::Text;
 use crate::file::count_of;
 use bas_block::SourceFault;
-use std::alloc::{AllocError, Global};
-use std::test::Fail;
+use std::alloc::Global;
 
 /// Lines 1, 2, .. of a file, how many units they are, and the line that is refused or open, or 0.
-const FILES: [(&[&str], usize, u32); 10] = [
+static FILES: [(&[&str], usize, u32); 10] = [
     (&["END"], 1, 0),
     (&["", "DO", "LOOP", "END", ""], 1, 0),
     (&[""], 0, 0),
@@ -20,24 +20,28 @@ const FILES: [(&[&str], usize, u32); 10] = [
 ];
 
 // The file of these lines, numbered from 1.
-fn numbered(alloc: Global, lines: &[&str]) -> Result<Vec<u8>, AllocError> {
-    let mut file = Vec::new(alloc);
+fn numbered(alloc: Global, lines: &[&str]) -> Text {
+    let mut file = Text::new(alloc);
     let mut number: u32 = 0;
     for line in lines {
         number = number.saturating_add(1);
-        let text = format!(in alloc; "{number} {line}\n")?;
-        file.extend_from_slice(text.as_bytes())?;
+        file.put_line(number, line);
     }
-    Ok(file)
+    file
+}
+
+// How many units these lines are, or their fault.
+fn count_in(alloc: Global, lines: &[&str]) -> Result<usize, SourceFault> {
+    let file = numbered(alloc, lines);
+    count_of(alloc, file.as_str().as_bytes())
 }
 
 // The units in front of the line of a number.
-fn units_before(alloc: Global, lines: &[&str], number: u32) -> Result<usize, AllocError> {
-    let Some(before) = lines.get(..number.saturating_sub(1) as usize) else {
-        return Ok(0);
-    };
-    let file = numbered(alloc, before)?;
-    Ok(count_of(alloc, &file).unwrap_or(0))
+fn units_before(alloc: Global, lines: &[&str], number: u32) -> usize {
+    match lines.get(..number.saturating_sub(1) as usize) {
+        Some(before) => count_in(alloc, before).unwrap_or(0),
+        None => 0,
+    }
 }
 
 // The line that is refused or open, or 0 where there is no unit. No line has the number of another fault.
@@ -51,23 +55,20 @@ fn line_of(fault: SourceFault) -> u32 {
 }
 
 // What was read, and the line that was refused or is open.
-fn read(alloc: Global, lines: &[&str]) -> Result<(usize, u32), AllocError> {
-    let file = numbered(alloc, lines)?;
-    match count_of(alloc, &file) {
-        Ok(units) => Ok((units, 0)),
+fn read(alloc: Global, lines: &[&str]) -> (usize, u32) {
+    match count_in(alloc, lines) {
+        Ok(units) => (units, 0),
         Err(fault) => {
             let left = line_of(fault);
-            let units = units_before(alloc, lines, left)?;
-            Ok((units, left))
+            (units_before(alloc, lines, left), left)
         }
     }
 }
 
 #[test]
-fn files_are_read(rt: HostRuntime) -> Result<(), Fail> {
-    for (lines, units, left) in FILES {
-        let found = read(rt.alloc(), lines)?;
-        assert!(rt; found.0 == units && found.1 == left);
+fn files_are_read(rt: HostRuntime) {
+    for (lines, units, left) in &FILES {
+        let found = read(rt.alloc(), lines);
+        assert!(rt; found.0 == *units && found.1 == *left);
     }
-    Ok(())
 }

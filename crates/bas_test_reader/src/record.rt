@@ -1,13 +1,12 @@
 //! Each alternative, read as a whole line, and refused where a token is missing or another.
 
-use crate::kind::kind_of;
+use crate::cases::check;
+use crate::kind::{check_family, item_of};
 use bas_ast::{LineItem, Plain, Simple};
-use bas_line::line_item;
 use std::alloc::Global;
-use std::process::Abort;
 
 /// Each text, and whether it is a statement that gives or takes values.
-const TRANSFERS: [(&str, bool); 47] = [
+static TRANSFERS: [(&str, bool); 47] = [
     ("PRINT #1", true),
     ("PRINT #1:", true),
     ("print #1: A; B, TAB(3); \"x\"", true),
@@ -58,7 +57,7 @@ const TRANSFERS: [(&str, bool); 47] = [
 ];
 
 /// Each text, and whether it opens a file.
-const OPENINGS: [(&str, bool); 27] = [
+static OPENINGS: [(&str, bool); 27] = [
     ("OPEN #1: NAME \"a\"", true),
     ("OPEN #N: NAME NAME", true),
     ("OPEN #1: NAME A$, ORGANIZATION STREAM", true),
@@ -89,7 +88,7 @@ const OPENINGS: [(&str, bool); 27] = [
 ];
 
 /// Each text, and whether it closes or sets a file, or deletes in it.
-const SETTINGS: [(&str, bool); 23] = [
+static SETTINGS: [(&str, bool); 23] = [
     ("CLOSE #N + 1", true),
     ("CLOSE 1", false),
     ("SET #1: POINTER BEGIN", true),
@@ -116,19 +115,12 @@ const SETTINGS: [(&str, bool); 23] = [
 ];
 
 /// Each text, the number of its values behind the first, and whether a `;` ends it.
-const FORMATTED: [(&str, usize, bool); 4] = [
+static FORMATTED: [(&str, usize, bool); 4] = [
     ("PRINT USING F$: A", 0, false),
     ("PRINT USING F$: A;", 0, true),
     ("PRINT USING F$: A; B", 1, false),
     ("PRINT #1, USING F$: A, B; C;", 2, true),
 ];
-
-fn check(rt: &impl Abort, alloc: Global, cases: &[(&str, bool)]) {
-    for (line, wanted) in cases {
-        let found = kind_of(alloc, line.as_bytes()).family == "channel statement";
-        assert!(rt; found == *wanted, "{line}");
-    }
-}
 
 // The number of the values behind the first that a format is used for, and whether a `;` ends them.
 fn formatted(item: &LineItem) -> Option<(usize, bool)> {
@@ -148,10 +140,7 @@ fn formatted(item: &LineItem) -> Option<(usize, bool)> {
 }
 
 fn formatted_line(alloc: Global, line: &[u8]) -> Option<(usize, bool)> {
-    if line.len() > 4096 {
-        return None;
-    }
-    match line_item(alloc, line) {
+    match item_of(alloc, line) {
         Ok(item) => formatted(&item),
         Err(_) => None,
     }
@@ -159,23 +148,23 @@ fn formatted_line(alloc: Global, line: &[u8]) -> Option<(usize, bool)> {
 
 #[test]
 fn lines_are_transfers(rt: HostRuntime) {
-    check(&rt, rt.alloc(), &TRANSFERS);
+    check_family(&rt, rt.alloc(), "channel statement", &TRANSFERS);
 }
 
 #[test]
 fn lines_are_openings(rt: HostRuntime) {
-    check(&rt, rt.alloc(), &OPENINGS);
+    check_family(&rt, rt.alloc(), "channel statement", &OPENINGS);
 }
 
 #[test]
 fn lines_are_settings(rt: HostRuntime) {
-    check(&rt, rt.alloc(), &SETTINGS);
+    check_family(&rt, rt.alloc(), "channel statement", &SETTINGS);
 }
 
 #[test]
 fn values_are_formatted(rt: HostRuntime) {
-    for (line, more, last) in FORMATTED {
+    for (line, more, last) in &FORMATTED {
         let found = formatted_line(rt.alloc(), line.as_bytes());
-        assert!(rt; found == Some((more, last)), "{line}");
+        check(&rt, line, found == Some((*more, *last)));
     }
 }

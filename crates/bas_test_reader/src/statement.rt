@@ -1,12 +1,12 @@
 //! Each alternative, read as a whole line, and refused where a token is missing or another.
 
-use crate::kind::kind_of;
-use bas_token::tokens;
+use crate::cases::check;
+use crate::kind::{check_family, kind_of};
+use bas_token::{Token, tokens};
 use std::alloc::Global;
-use std::test::Fail;
 
 /// Each text, and whether it is a statement.
-const STATEMENTS: [(&str, bool); 66] = [
+static STATEMENTS: [(&str, bool); 66] = [
     ("LET A = 1", true),
     ("let a(i, 2), b$ = \"x\" & c$", true),
     ("LET LET = READ", true),
@@ -76,7 +76,7 @@ const STATEMENTS: [(&str, bool); 66] = [
 ];
 
 /// Each text, and which statement it begins with.
-const KINDS: [(&str, &str); 7] = [
+static KINDS: [(&str, &str); 7] = [
     ("GOTO 10", "GOTO"),
     ("GO TO 10", "GOTO"),
     ("go sub 00010", "GOSUB"),
@@ -86,34 +86,38 @@ const KINDS: [(&str, &str); 7] = [
     ("INPUT PROMPT A:", "no prompt"),
 ];
 
-/// The statement that the longest beginning of the line is, cut behind a token.
-fn longest(alloc: Global, line: &[u8]) -> Result<&'static str, Fail> {
-    if line.len() > 4096 {
-        return Err("too long")?;
-    }
-    for token in tokens(alloc, line)?.iter().rev() {
-        let front = line.get(..usize::from(token.to)).ok_or("a token")?;
+// The statement that the longest beginning of the line is, cut behind one of the tokens.
+fn longest_of(alloc: Global, line: &[u8], tokens: &[Token]) -> &'static str {
+    for token in tokens.iter().rev() {
+        let Some(front) = line.get(..usize::from(token.to)) else {
+            return "no token";
+        };
         let statement = kind_of(alloc, front).statement;
         if statement != "none" {
-            return Ok(statement);
+            return statement;
         }
     }
-    Ok("none")
+    "none"
+}
+
+fn longest(alloc: Global, line: &[u8]) -> &'static str {
+    if line.len() > 4096 {
+        return "too long";
+    }
+    match tokens(alloc, line) {
+        Ok(found) => longest_of(alloc, line, found.as_slice()),
+        Err(_) => "no tokens",
+    }
 }
 
 #[test]
-fn lines_are_of_their_kind(rt: HostRuntime) -> Result<(), Fail> {
-    for (line, wanted) in KINDS {
-        let found = longest(rt.alloc(), line.as_bytes())?;
-        assert!(rt; found == wanted, "{line}");
+fn lines_are_of_their_kind(rt: HostRuntime) {
+    for (line, wanted) in &KINDS {
+        check(&rt, line, longest(rt.alloc(), line.as_bytes()) == *wanted);
     }
-    Ok(())
 }
 
 #[test]
 fn lines_are_statements(rt: HostRuntime) {
-    for (line, wanted) in STATEMENTS {
-        let found = kind_of(rt.alloc(), line.as_bytes()).family == "statement";
-        assert!(rt; found == wanted, "{line}");
-    }
+    check_family(&rt, rt.alloc(), "statement", &STATEMENTS);
 }

@@ -1,12 +1,11 @@
 //! Lines and their tokens.
 
-use bas_token::{TokenFault, TokenKind, tokens};
+use crate::cases::{Text, check_text};
+use bas_token::{Token, TokenFault, TokenKind, tokens};
 use std::alloc::Global;
-use std::fmt::Write;
-use std::test::Fail;
 
 /// Each line with its tokens: a letter for the kind, and the places; or `?` and the place of a bad byte.
-const LINES: [(&str, &str); 66] = [
+static LINES: [(&str, &str); 66] = [
     ("", ""),
     ("   ", ""),
     ("A", "W0-1 "),
@@ -79,7 +78,7 @@ const LINES: [(&str, &str); 66] = [
 ];
 
 /// The same of bytes past 127, which stand in quotes and remarks alone, and of control bytes, which stand nowhere.
-const BYTES: [(&[u8], &str); 6] = [
+static BYTES: [(&[u8], &str); 6] = [
     (&[34, 200, 34], "Q0-3 "),
     (&[33, 200], "R0-2 "),
     (&[65, 32, 200], "?2"),
@@ -98,40 +97,53 @@ fn letter_of(kind: TokenKind) -> &'static str {
     }
 }
 
-fn shown(alloc: Global, line: &[u8]) -> Result<String, Fail> {
-    let mut text = String::new(alloc);
+fn put_token(text: &mut Text, token: &Token) {
+    text.put(letter_of(token.kind));
+    text.put_number(i128::from(token.from));
+    text.put("-");
+    text.put_number(i128::from(token.to));
+    text.put(" ");
+}
+
+fn put_fault(text: &mut Text, fault: &TokenFault) {
+    match fault {
+        TokenFault::BadToken { at } => {
+            text.put("?");
+            text.put_number(i128::from(*at));
+        }
+        TokenFault::Memory => text.put("no memory"),
+    }
+}
+
+fn put_tokens(text: &mut Text, found: &[Token]) {
+    for token in found {
+        put_token(text, token);
+    }
+}
+
+fn shown(alloc: Global, line: &[u8]) -> Text {
+    let mut text = Text::new(alloc);
     if line.len() > 4096 {
-        return Ok(text);
+        text.put("too long");
+        return text;
     }
     match tokens(alloc, line) {
-        Ok(found) => {
-            for token in &found {
-                let letter = letter_of(token.kind);
-                let from = token.from;
-                let to = token.to;
-                write!(text, "{letter}{from}-{to} ")?;
-            }
-        }
-        Err(TokenFault::BadToken { at }) => write!(text, "?{at}")?,
-        Err(TokenFault::Memory) => text.push_str("no memory")?,
+        Ok(found) => put_tokens(&mut text, found.as_slice()),
+        Err(fault) => put_fault(&mut text, &fault),
     }
-    Ok(text)
+    text
 }
 
 #[test]
-fn lines_have_their_tokens(rt: HostRuntime) -> Result<(), Fail> {
-    for (line, wanted) in LINES {
-        let text = shown(rt.alloc(), line.as_bytes())?;
-        assert!(rt; text.as_str() == wanted, "{line}: {text}");
+fn lines_have_their_tokens(rt: HostRuntime) {
+    for (line, wanted) in &LINES {
+        check_text(&rt, line, &shown(rt.alloc(), line.as_bytes()), wanted);
     }
-    Ok(())
 }
 
 #[test]
-fn bytes_have_their_places(rt: HostRuntime) -> Result<(), Fail> {
-    for (line, wanted) in BYTES {
-        let text = shown(rt.alloc(), line)?;
-        assert!(rt; text.as_str() == wanted, "{wanted}: {text}");
+fn bytes_have_their_places(rt: HostRuntime) {
+    for (line, wanted) in &BYTES {
+        check_text(&rt, wanted, &shown(rt.alloc(), line), wanted);
     }
-    Ok(())
 }

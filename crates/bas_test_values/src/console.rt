@@ -1,12 +1,13 @@
 //! Print lines. The values are those of a second program, which cuts an item in its pieces.
 
+use crate::cases::after;
 use bas_console::PrintLine;
 use std::alloc::{AllocError, Global};
-use std::test::Fail;
+use std::process::Abort;
 
 /// Margin, column and length of an item; the lengths of the parts between the line ends that are
 /// printed; the column after it.
-const ITEMS: [(u32, u32, usize, &[usize], u32); 33] = [
+static ITEMS: [(u32, u32, usize, &[usize], u32); 33] = [
     (80, 0, 0, &[0], 0),
     (80, 80, 0, &[0], 80),
     (80, 0, 1, &[1], 1),
@@ -43,7 +44,7 @@ const ITEMS: [(u32, u32, usize, &[usize], u32); 33] = [
 ];
 
 /// Margin and column before a comma; whether the line ends; the spaces; the column after it.
-const COMMAS: [(u32, u32, bool, usize, u32); 27] = [
+static COMMAS: [(u32, u32, bool, usize, u32); 27] = [
     (80, 0, false, 16, 16),
     (80, 1, false, 15, 16),
     (80, 15, false, 1, 16),
@@ -74,7 +75,7 @@ const COMMAS: [(u32, u32, bool, usize, u32); 27] = [
 ];
 
 /// Margin, column and `n` of a `TAB(n)`; whether the line ends first; the spaces; the column after it.
-const TABS: [(u32, u32, u32, bool, usize, u32); 29] = [
+static TABS: [(u32, u32, u32, bool, usize, u32); 29] = [
     (80, 0, 1, false, 0, 0),
     (80, 1, 1, true, 0, 0),
     (80, 4, 11, false, 6, 10),
@@ -122,33 +123,42 @@ fn letters(alloc: Global, count: usize) -> Result<Vec<u8>, AllocError> {
     Ok(text)
 }
 
-/// The text with line ends between parts of these lengths, after a `#`.
-fn in_parts(alloc: Global, text: &[u8], lengths: &[usize]) -> Result<Vec<u8>, AllocError> {
-    let mut wanted = Vec::new(alloc);
-    wanted.push(b'#')?;
-    let mut rest = text;
-    for (i, length) in lengths.iter().enumerate() {
-        if i > 0 {
-            wanted.push(b'\n')?;
+/// Whether the output is the text, with line ends between parts of these lengths, after a `#`.
+fn is_in_parts(out: &[u8], text: &[u8], lengths: &[usize]) -> bool {
+    let mut front: &[u8] = b"#";
+    let (mut out, mut text) = (out, text);
+    for length in lengths {
+        let (part, left) = text.split_at((*length).min(text.len()));
+        match after_part(out, front, part) {
+            Some(rest) => out = rest,
+            None => return false,
         }
-        let (part, after) = rest.split_at((*length).min(rest.len()));
-        wanted.extend_from_slice(part)?;
-        rest = after;
+        text = left;
+        front = b"\n";
     }
-    Ok(wanted)
+    out.is_empty()
 }
 
-/// A `#`, perhaps the end of a line, and spaces.
-fn spaced(alloc: Global, ended: bool, spaces: usize) -> Result<Vec<u8>, AllocError> {
-    let mut wanted = Vec::new(alloc);
-    wanted.push(b'#')?;
-    if ended {
-        wanted.push(b'\n')?;
+fn after_part<'a>(out: &'a [u8], front: &[u8], part: &[u8]) -> Option<&'a [u8]> {
+    after(after(out, front)?, part)
+}
+
+/// Whether the output is so many spaces, after a `#` and perhaps the end of a line.
+fn is_spaced(out: &[u8], ended: bool, spaces: usize) -> bool {
+    let front: &[u8] = if ended { b"#\n" } else { b"#" };
+    match after(out, front) {
+        Some(rest) => rest.len() == spaces && are_spaces(rest),
+        None => false,
     }
-    for _ in 0..spaces {
-        wanted.push(b' ')?;
+}
+
+fn are_spaces(bytes: &[u8]) -> bool {
+    for byte in bytes {
+        if *byte != b' ' {
+            return false;
+        }
     }
-    Ok(wanted)
+    true
 }
 
 /// An output on which something stands already.
@@ -158,79 +168,122 @@ fn begun(alloc: Global) -> Result<Vec<u8>, AllocError> {
     Ok(out)
 }
 
-#[test]
-fn items_are_placed_or_cut(rt: HostRuntime) -> Result<(), Fail> {
-    for (margin, column, length, lengths, after) in ITEMS {
-        assert!(rt; 1 <= margin && column <= margin);
-        let text = letters(rt.alloc(), length)?;
-        let mut out = begun(rt.alloc())?;
-        let mut line = PrintLine::new(margin, column);
-        line.item(&text, &mut out)?;
-        let wanted = in_parts(rt.alloc(), &text, lengths)?;
-        assert!(rt;
-            out.as_slice() == wanted.as_slice(),
-            "{length} bytes at {column} of {margin}"
-        );
-        assert_eq!(rt;
-            line.column(),
-            after,
-            "{length} bytes at {column} of {margin}"
-        );
+/// A line with this margin and column, if there is one.
+fn line_at(margin: u32, column: u32) -> Option<PrintLine> {
+    if 1 <= margin && column <= margin {
+        Some(PrintLine::new(margin, column))
+    } else {
+        None
     }
-    Ok(())
+}
+
+/// Whether an item of so many letters is printed in these parts, and the column after it.
+fn item(alloc: Global, line: PrintLine, length: usize, lengths: &[usize]) -> Option<(bool, u32)> {
+    let text = letters(alloc, length).ok()?;
+    let mut out = begun(alloc).ok()?;
+    let mut line = line;
+    line.item(&text, &mut out).ok()?;
+    Some((is_in_parts(&out, &text, lengths), line.column()))
+}
+
+/// Whether a comma is printed so, and the column after it.
+fn comma(alloc: Global, line: PrintLine, ended: bool, spaces: usize) -> Option<(bool, u32)> {
+    let mut out = begun(alloc).ok()?;
+    let mut line = line;
+    line.comma(&mut out).ok()?;
+    Some((is_spaced(&out, ended, spaces), line.column()))
+}
+
+/// Whether a `TAB(n)` is printed so, and the column after it.
+fn tab(alloc: Global, line: PrintLine, n: u32, ended: bool, spaces: usize) -> Option<(bool, u32)> {
+    if n < 1 {
+        return None;
+    }
+    let mut out = begun(alloc).ok()?;
+    let mut line = line;
+    line.tab(n, &mut out).ok()?;
+    Some((is_spaced(&out, ended, spaces), line.column()))
+}
+
+/// Ends the test where the output is not as it has to be, or the column after it is another.
+fn check_printed(rt: &impl Abort, found: Option<(bool, u32)>, after: u32, case: (u32, u32, usize)) {
+    let (margin, column, size) = case;
+    let (is_right, reached) = found.unwrap_or((false, 0));
+    assert!(rt; is_right, "{size} at {column} of {margin}");
+    assert!(rt;
+        reached == after,
+        "{size} at {column} of {margin}: {reached}"
+    );
 }
 
 #[test]
-fn commas_go_to_the_next_zone(rt: HostRuntime) -> Result<(), Fail> {
-    for (margin, column, ended, spaces, after) in COMMAS {
-        assert!(rt; 1 <= margin && column <= margin);
-        let mut out = begun(rt.alloc())?;
-        let mut line = PrintLine::new(margin, column);
-        line.comma(&mut out)?;
-        let wanted = spaced(rt.alloc(), ended, spaces)?;
-        assert!(rt;
-            out.as_slice() == wanted.as_slice(),
-            "a comma at {column} of {margin}"
-        );
-        assert_eq!(rt; line.column(), after, "a comma at {column} of {margin}");
+fn items_are_placed_or_cut(rt: HostRuntime) {
+    for (margin, column, length, lengths, after) in &ITEMS {
+        let found = match line_at(*margin, *column) {
+            Some(line) => item(rt.alloc(), line, *length, lengths),
+            None => None,
+        };
+        check_printed(&rt, found, *after, (*margin, *column, *length));
     }
-    Ok(())
 }
 
 #[test]
-fn tabs_go_to_their_place(rt: HostRuntime) -> Result<(), Fail> {
-    for (margin, column, n, ended, spaces, after) in TABS {
-        assert!(rt; 1 <= margin && column <= margin && 1 <= n);
-        let mut out = begun(rt.alloc())?;
-        let mut line = PrintLine::new(margin, column);
-        line.tab(n, &mut out)?;
-        let wanted = spaced(rt.alloc(), ended, spaces)?;
-        assert!(rt;
-            out.as_slice() == wanted.as_slice(),
-            "TAB({n}) at {column} of {margin}"
-        );
-        assert_eq!(rt; line.column(), after, "TAB({n}) at {column} of {margin}");
+fn commas_go_to_the_next_zone(rt: HostRuntime) {
+    for (margin, column, ended, spaces, after) in &COMMAS {
+        let found = match line_at(*margin, *column) {
+            Some(line) => comma(rt.alloc(), line, *ended, *spaces),
+            None => None,
+        };
+        check_printed(&rt, found, *after, (*margin, *column, *spaces));
     }
-    Ok(())
 }
 
-/// `PRINT "Name", "Count"; TAB(30); "Sum"`, a prompt and its reply, and `PRINT "more"`.
 #[test]
-fn calls_follow_one_another(rt: HostRuntime) -> Result<(), Fail> {
-    let mut out = Vec::new(rt.alloc());
-    let mut line = PrintLine::new(80, 0);
-    line.item(b"Name", &mut out)?;
-    line.comma(&mut out)?;
-    line.item(b"Count", &mut out)?;
-    line.tab(30, &mut out)?;
-    line.item(b"Sum", &mut out)?;
-    line.end(&mut out)?;
-    line.item(b"? ", &mut out)?;
-    assert_eq!(rt; line.column(), 2);
+fn tabs_go_to_their_place(rt: HostRuntime) {
+    for (margin, column, n, ended, spaces, after) in &TABS {
+        let found = match line_at(*margin, *column) {
+            Some(line) => tab(rt.alloc(), line, *n, *ended, *spaces),
+            None => None,
+        };
+        check_printed(&rt, found, *after, (*margin, *column, *n as usize));
+    }
+}
+
+/// `PRINT "Name", "Count"; TAB(30); "Sum"`.
+fn print_titles(line: &mut PrintLine, out: &mut Vec<u8>) -> Result<(), AllocError> {
+    line.item(b"Name", out)?;
+    line.comma(out)?;
+    line.item(b"Count", out)?;
+    line.tab(30, out)?;
+    line.item(b"Sum", out)?;
+    line.end(out)
+}
+
+/// A prompt and its reply, and `PRINT "more"`: the columns after each.
+fn ask(line: &mut PrintLine, out: &mut Vec<u8>) -> Result<[u32; 3], AllocError> {
+    line.item(b"? ", out)?;
+    let asked = line.column();
     line.replied();
-    assert_eq!(rt; line.column(), 0);
-    line.item(b"more", &mut out)?;
-    assert_eq!(rt; line.column(), 4);
-    assert!(rt; out.as_slice() == b"Name            Count        Sum\n? more".as_slice());
-    Ok(())
+    let replied = line.column();
+    line.item(b"more", out)?;
+    Ok([asked, replied, line.column()])
+}
+
+/// Whether all that is printed as it has to be, and the columns.
+fn dialogue(alloc: Global) -> Option<(bool, [u32; 3])> {
+    let mut out = Vec::new(alloc);
+    let mut line = PrintLine::new(80, 0);
+    print_titles(&mut line, &mut out).ok()?;
+    let columns = ask(&mut line, &mut out).ok()?;
+    let wanted = b"Name            Count        Sum\n? more";
+    Some((out.as_slice() == wanted.as_slice(), columns))
+}
+
+#[test]
+fn calls_follow_one_another(rt: HostRuntime) {
+    let (is_right, [asked, replied, more]) = dialogue(rt.alloc()).unwrap_or((false, [9; 3]));
+    assert!(rt; asked == 2);
+    assert!(rt; replied == 0);
+    assert!(rt; more == 4);
+    assert!(rt; is_right);
 }

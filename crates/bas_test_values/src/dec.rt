@@ -1,11 +1,10 @@
 //! Decimal numbers: what is computed, what is read and what is printed.
 
+use crate::cases::check;
 use DecFault::{BadRoot, NotWhole, Overflow, ZeroDivide};
 use Operation::*;
 use bas_dec::{Dec, DecFault, FixType, Numeral, read_numeral};
 use std::cmp::Ordering;
-use std::process::Abort;
-use std::test::Fail;
 
 /// A coefficient and a scale.
 type Parts = (i128, u8);
@@ -76,18 +75,30 @@ fn on_one(operation: Operation, x: Dec) -> Result<Dec, DecFault> {
     }
 }
 
-/// The parts of what the operation gives. `Fit` takes a type in place of the second number.
-fn outcome(operation: Operation, x: Dec, second: Parts) -> Result<Result<Parts, DecFault>, Fail> {
-    if operation == Fit {
-        let digits = u8::try_from(second.0).ok().ok_or("no digits")?;
-        let fix = FixType::of(digits, second.1).ok_or("no type")?;
-        return Ok(x.fit(fix).map(Dec::parts));
+fn parts(found: Result<Dec, DecFault>) -> Result<Parts, DecFault> {
+    match found {
+        Ok(number) => Ok(number.parts()),
+        Err(fault) => Err(fault),
     }
-    let y = Dec::of_parts(second.0, second.1).ok_or("no second number")?;
-    Ok(match operation {
+}
+
+/// The parts of the number in a type of so many digits and such a scale, if there is that type.
+fn fitted(x: Dec, digits: i128, scale: u8) -> Option<Result<Parts, DecFault>> {
+    let digits = u8::try_from(digits).ok()?;
+    Some(parts(x.fit(FixType::of(digits, scale)?)))
+}
+
+/// The parts of what the operation gives, if both are numbers. `Fit` takes a type in place of the
+/// second number.
+fn outcome(operation: Operation, x: Dec, second: Parts) -> Option<Result<Parts, DecFault>> {
+    if operation == Fit {
+        return fitted(x, second.0, second.1);
+    }
+    let y = Dec::of_parts(second.0, second.1)?;
+    Some(match operation {
         Compare => Ok((sign(x.compare(y)), 0)),
         Whole => Ok((i128::from(x.whole()), 0)),
-        _ => on_two(operation, x, y).map(Dec::parts),
+        _ => parts(on_two(operation, x, y)),
     })
 }
 
@@ -450,124 +461,164 @@ static CASES: [Case; 168] = [
     (Fit, (95, 1), (1, 0), Err(Overflow)),
 ];
 
-/// Whether the operation of a case gives what it is to give.
-fn check(rt: &impl Abort, case: &Case) -> Result<(), Fail> {
-    let x = Dec::of_parts(case.1.0, case.1.1).ok_or("no first number")?;
-    assert_eq!(rt; x.parts(), case.1);
-    let found = outcome(case.0, x, case.2)?;
-    assert_eq!(rt; found, case.3, "{case:?}");
-    Ok(())
+/// Whether the first number of the case has its parts.
+fn is_made(case: &Case) -> bool {
+    match Dec::of_parts(case.1.0, case.1.1) {
+        Some(x) => x.parts() == case.1,
+        None => false,
+    }
+}
+
+/// Whether the operation of the case gives what it is to give.
+fn is_computed(case: &Case) -> bool {
+    match Dec::of_parts(case.1.0, case.1.1) {
+        Some(x) => outcome(case.0, x, case.2) == Some(case.3),
+        None => false,
+    }
 }
 
 #[test]
-fn computes(rt: HostRuntime) -> Result<(), Fail> {
-    for case in CASES.iter() {
-        check(&rt, case)?;
+fn computes(rt: HostRuntime) {
+    for case in &CASES {
+        let (operation, (coefficient, scale), _, _) = case;
+        assert!(rt; is_made(case), "{operation:?} of {coefficient}, {scale}");
+        assert!(rt;
+            is_computed(case),
+            "{operation:?} of {coefficient}, {scale}"
+        );
     }
-    Ok(())
 }
 
+/// Each text, and the coefficient and the scale that it is read as.
+static VALUES: [(&str, i128, u8); 21] = [
+    ("0", 0, 0),
+    ("0042", 42, 0),
+    (".5", 5, 1),
+    ("5.", 5, 0),
+    ("2.50", 25, 1),
+    ("12.5E1", 125, 0),
+    ("12.5e+3", 12_500, 0),
+    ("7E-2", 7, 2),
+    (
+        "1E037",
+        10_000_000_000_000_000_000_000_000_000_000_000_000,
+        0,
+    ),
+    ("0E999", 0, 0),
+    ("1E-999", 0, 0),
+    ("1e-19", 0, 0),
+    ("4E-19", 0, 0),
+    ("5E-19", 1, 18),
+    (".1234567890123456784", 123_456_789_012_345_678, 18),
+    (".1234567890123456785", 123_456_789_012_345_679, 18),
+    (".9999999999999999995", 1, 0),
+    (
+        "100000000000000000000.0000000000000000000",
+        100_000_000_000_000_000_000,
+        0,
+    ),
+    (
+        "12345678901234567890123456789012345.4999999999999999999",
+        123_456_789_012_345_678_901_234_567_890_123_455,
+        1,
+    ),
+    (
+        "99999999999999999999999999999999999999",
+        99_999_999_999_999_999_999_999_999_999_999_999_999,
+        0,
+    ),
+    (
+        "000000000000000000000000000000000000000000000000000000000007",
+        7,
+        0,
+    ),
+];
+
+/// Each text that is a numeral too large to have a value.
+static TOO_LARGE: [&str; 8] = [
+    "1E38",
+    "1E999",
+    "1E0001",
+    "1E-0001",
+    "999999999999999999999999999999999999999",
+    "99999999999999999999999999999999999999.9999999999999999999",
+    "0000000000000000000000000000000000000000000000000000000000007",
+    ".0000000000000000000000000000000000000000000000000000000000000",
+];
+
+/// Each text that is no numeral.
+static NO_NUMERALS: [&str; 13] = [
+    "", ".", "E5", ".E5", "1E", "1E+", "1E+-2", "1E2.0", "1.2.3", "-5", "- 5", "5 ", "1F2",
+];
+
 /// The coefficient and the scale that `text` is read as, if it has a value.
-fn value(text: &[u8]) -> Option<(i128, u8)> {
-    match read_numeral(text) {
+fn value(text: &str) -> Option<Parts> {
+    match read_numeral(text.as_bytes()) {
         Numeral::Value(number) => Some(number.parts()),
         Numeral::TooLarge | Numeral::NotNumeral => None,
     }
 }
 
-#[test]
-fn reads_numerals(rt: HostRuntime) {
-    let values: [(&[u8], i128, u8); 21] = [
-        (b"0", 0, 0),
-        (b"0042", 42, 0),
-        (b".5", 5, 1),
-        (b"5.", 5, 0),
-        (b"2.50", 25, 1),
-        (b"12.5E1", 125, 0),
-        (b"12.5e+3", 12_500, 0),
-        (b"7E-2", 7, 2),
-        (
-            b"1E037",
-            10_000_000_000_000_000_000_000_000_000_000_000_000,
-            0,
-        ),
-        (b"0E999", 0, 0),
-        (b"1E-999", 0, 0),
-        (b"1e-19", 0, 0),
-        (b"4E-19", 0, 0),
-        (b"5E-19", 1, 18),
-        (b".1234567890123456784", 123_456_789_012_345_678, 18),
-        (b".1234567890123456785", 123_456_789_012_345_679, 18),
-        (b".9999999999999999995", 1, 0),
-        (
-            b"100000000000000000000.0000000000000000000",
-            100_000_000_000_000_000_000,
-            0,
-        ),
-        (
-            b"12345678901234567890123456789012345.4999999999999999999",
-            123_456_789_012_345_678_901_234_567_890_123_455,
-            1,
-        ),
-        (
-            b"99999999999999999999999999999999999999",
-            99_999_999_999_999_999_999_999_999_999_999_999_999,
-            0,
-        ),
-        (
-            b"000000000000000000000000000000000000000000000000000000000007",
-            7,
-            0,
-        ),
-    ];
-    for (text, coefficient, scale) in values {
-        assert_eq!(rt; value(text), Some((coefficient, scale)));
-    }
-    let too_large: [&[u8]; 8] = [
-        b"1E38",
-        b"1E999",
-        b"1E0001",
-        b"1E-0001",
-        b"999999999999999999999999999999999999999",
-        b"99999999999999999999999999999999999999.9999999999999999999",
-        b"0000000000000000000000000000000000000000000000000000000000007",
-        b".0000000000000000000000000000000000000000000000000000000000000",
-    ];
-    for text in too_large {
-        assert!(rt; matches!(read_numeral(text), Numeral::TooLarge));
-    }
-    let no_numerals: [&[u8]; 13] = [
-        b"", b".", b"E5", b".E5", b"1E", b"1E+", b"1E+-2", b"1E2.0", b"1.2.3", b"-5", b"- 5",
-        b"5 ", b"1F2",
-    ];
-    for text in no_numerals {
-        assert!(rt; matches!(read_numeral(text), Numeral::NotNumeral));
-    }
+fn is_too_large(text: &str) -> bool {
+    matches!(read_numeral(text.as_bytes()), Numeral::TooLarge)
+}
+
+fn is_no_numeral(text: &str) -> bool {
+    matches!(read_numeral(text.as_bytes()), Numeral::NotNumeral)
 }
 
 #[test]
-fn prints_numbers(rt: HostRuntime) -> Result<(), Fail> {
-    let texts: [(i128, u8, &[u8]); 9] = [
-        (0, 0, b" 0 "),
-        (7, 0, b" 7 "),
-        (-4, 0, b"-4 "),
-        (120, 0, b" 120 "),
-        (125, 1, b" 12.5 "),
-        (-25, 2, b"-.25 "),
-        (-1005, 3, b"-1.005 "),
-        (1, 18, b" .000000000000000001 "),
-        (
-            99_999_999_999_999_999_999_999_999_999_999_999_999,
-            0,
-            b" 99999999999999999999999999999999999999 ",
-        ),
-    ];
-    for (coefficient, scale, text) in texts {
-        let number = Dec::of_parts(coefficient, scale).ok_or("no number")?;
-        let mut out = [b'#'; 64];
-        let length = number.print_into(&mut out);
-        assert_eq!(rt; &out[..length], text);
-        assert!(rt; out[length..].iter().all(|byte| *byte == b'#'));
+fn reads_numerals(rt: HostRuntime) {
+    for (text, coefficient, scale) in &VALUES {
+        check(&rt, text, value(text) == Some((*coefficient, *scale)));
     }
-    Ok(())
+    for text in &TOO_LARGE {
+        check(&rt, text, is_too_large(text));
+    }
+    for text in &NO_NUMERALS {
+        check(&rt, text, is_no_numeral(text));
+    }
+}
+
+/// A coefficient and a scale, and the text that they are printed as.
+static TEXTS: [(i128, u8, &str); 9] = [
+    (0, 0, " 0 "),
+    (7, 0, " 7 "),
+    (-4, 0, "-4 "),
+    (120, 0, " 120 "),
+    (125, 1, " 12.5 "),
+    (-25, 2, "-.25 "),
+    (-1005, 3, "-1.005 "),
+    (1, 18, " .000000000000000001 "),
+    (
+        99_999_999_999_999_999_999_999_999_999_999_999_999,
+        0,
+        " 99999999999999999999999999999999999999 ",
+    ),
+];
+
+/// Whether the number is printed as the text, and whether the bytes behind it are left as they were.
+fn prints(coefficient: i128, scale: u8, text: &str) -> Option<(bool, bool)> {
+    let number = Dec::of_parts(coefficient, scale)?;
+    let mut out = [b'#'; 64];
+    let length = number.print_into(&mut out);
+    Some((&out[..length] == text.as_bytes(), are_left(&out[length..])))
+}
+
+fn are_left(bytes: &[u8]) -> bool {
+    for byte in bytes {
+        if *byte != b'#' {
+            return false;
+        }
+    }
+    true
+}
+
+#[test]
+fn prints_numbers(rt: HostRuntime) {
+    for (coefficient, scale, text) in &TEXTS {
+        let (is_printed, is_left) = prints(*coefficient, *scale, text).unwrap_or((false, false));
+        check(&rt, text, is_printed);
+        check(&rt, text, is_left);
+    }
 }

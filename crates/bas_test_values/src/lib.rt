@@ -2,11 +2,14 @@
 //! and items of data, print lines, and the lines of a source file.
 //!
 //! Each module tests the public calls of one crate, on worked examples whose expected values come from
-//! the rules of the language. There is nothing here but tests: the library itself is empty.
+//! the rules of the language. `cases` ends a test at a case that does not hold. There is nothing here but
+//! tests: the library itself is empty.
 #![tactic(auto)]
 
 #[cfg(test)]
 mod base;
+#[cfg(test)]
+mod cases;
 #[cfg(test)]
 mod console;
 #[cfg(test)]

@@ -1,11 +1,12 @@
 //! Files and the lines that they have; lines and their numbers.
 
+use crate::cases::{after, check};
+use bas_base::Seq;
 use bas_source::{logical_lines, numbered};
 use std::alloc::Global;
-use std::test::Fail;
 
 /// Each file, and its logical lines, each behind a `|`.
-const FILES: [(&str, &str); 13] = [
+static FILES: [(&str, &str); 13] = [
     ("", ""),
     ("\n\n  \n\t\n", ""),
     ("10 END", "|10 END"),
@@ -25,7 +26,7 @@ const FILES: [(&str, &str); 13] = [
 ];
 
 /// Each line, its number, or 0 where it has none, and what stands behind it.
-const LINES: [(&str, u32, &str); 9] = [
+static LINES: [(&str, u32, &str); 9] = [
     ("10 END", 10, " END"),
     ("10END", 10, "END"),
     ("00000010", 10, ""),
@@ -37,14 +38,27 @@ const LINES: [(&str, u32, &str); 9] = [
     ("END", 0, ""),
 ];
 
-fn shown(alloc: Global, file: &[u8]) -> Result<Vec<u8>, Fail> {
-    let lines = logical_lines(alloc, file)?;
-    let mut text = Vec::new(alloc);
-    for line in &lines {
-        text.push(b'|')?;
-        text.extend_from_slice(line.items())?;
+fn after_line<'a>(text: &'a [u8], line: &[u8]) -> Option<&'a [u8]> {
+    after(after(text, b"|")?, line)
+}
+
+// Whether these are the lines, each behind a `|`.
+fn are_lines(lines: &[Seq<u8>], wanted: &[u8]) -> bool {
+    let mut left = wanted;
+    for line in lines {
+        match after_line(left, line.items()) {
+            Some(rest) => left = rest,
+            None => return false,
+        }
     }
-    Ok(text)
+    left.is_empty()
+}
+
+fn has_lines(alloc: Global, file: &str, wanted: &str) -> bool {
+    match logical_lines(alloc, file.as_bytes()) {
+        Ok(lines) => are_lines(lines.as_slice(), wanted.as_bytes()),
+        Err(_) => false,
+    }
 }
 
 fn number_and_rest(line: &[u8]) -> (u32, &[u8]) {
@@ -55,19 +69,16 @@ fn number_and_rest(line: &[u8]) -> (u32, &[u8]) {
 }
 
 #[test]
-fn files_have_their_lines(rt: HostRuntime) -> Result<(), Fail> {
-    for (file, lines) in FILES {
-        let found = shown(rt.alloc(), file.as_bytes())?;
-        assert!(rt; found.as_slice() == lines.as_bytes(), "{file}");
+fn files_have_their_lines(rt: HostRuntime) {
+    for (file, lines) in &FILES {
+        check(&rt, file, has_lines(rt.alloc(), file, lines));
     }
-    Ok(())
 }
 
 #[test]
-fn lines_have_their_numbers(rt: HostRuntime) -> Result<(), Fail> {
-    for (line, number, rest) in LINES {
+fn lines_have_their_numbers(rt: HostRuntime) {
+    for (line, number, rest) in &LINES {
         let found = number_and_rest(line.as_bytes());
-        assert!(rt; found.0 == number && found.1 == rest.as_bytes(), "{line}");
+        check(&rt, line, found.0 == *number && found.1 == rest.as_bytes());
     }
-    Ok(())
 }

@@ -1,12 +1,13 @@
 //! Strings: what each operation gives, on tables of values that another program made.
 
+use crate::cases::check;
 use bas_text::{StrVal, TextFault};
 use std::alloc::Global;
 use std::cmp::Ordering;
-use std::test::Fail;
+use std::process::Abort;
 
 /// Each string, a first and a last place, and its part between them.
-const PARTS: [(&str, i64, i64, &str); 29] = [
+static PARTS: [(&str, i64, i64, &str); 29] = [
     (
         "abc",
         -9_223_372_036_854_775_808,
@@ -49,7 +50,7 @@ const PARTS: [(&str, i64, i64, &str); 29] = [
 ];
 
 /// Each string, the string looked for, the place to look from, and the place found.
-const PLACES: [(&str, &str, i64, u32); 35] = [
+static PLACES: [(&str, &str, i64, u32); 35] = [
     ("abc", "", 9_223_372_036_854_775_807, 0),
     ("abc", "", -9_223_372_036_854_775_808, 1),
     ("", "", -1, 1),
@@ -88,10 +89,10 @@ const PLACES: [(&str, &str, i64, u32); 35] = [
 ];
 
 /// Strings in rising order, each less than every later one.
-const RISING: [&str; 11] = ["", " ", "A", "AB", "B", "Z", "a", "aa", "ab", "b", "\u{e9}"];
+static RISING: [&str; 11] = ["", " ", "A", "AB", "B", "Z", "a", "aa", "ab", "b", "\u{e9}"];
 
 /// Each string with its capitals and its small letters.
-const LETTERS: [(&str, &str, &str); 5] = [
+static LETTERS: [(&str, &str, &str); 5] = [
     ("", "", ""),
     ("azAZ", "AZAZ", "azaz"),
     ("`{@[", "`{@[", "`{@["),
@@ -100,7 +101,7 @@ const LETTERS: [(&str, &str, &str); 5] = [
 ];
 
 /// Each string, without the spaces at its front, and without those at its end.
-const TRIMS: [(&str, &str, &str); 7] = [
+static TRIMS: [(&str, &str, &str); 7] = [
     ("", "", ""),
     ("   ", "", ""),
     ("ab", "ab", "ab"),
@@ -112,7 +113,7 @@ const TRIMS: [(&str, &str, &str); 7] = [
 
 /// A string repeated and joined with another one repeated: each with its number of times, and the
 /// length of the whole, or None where it is too long.
-const LENGTHS: [(&str, u64, &str, u64, Option<usize>); 13] = [
+static LENGTHS: [(&str, u64, &str, u64, Option<usize>); 13] = [
     ("ab", 3, "a", 1, Some(7)),
     ("ab", 0, "a", 0, Some(0)),
     ("", 18_446_744_073_709_551_615, "", 1, Some(0)),
@@ -130,7 +131,7 @@ const LENGTHS: [(&str, u64, &str, u64, Option<usize>); 13] = [
 
 /// A letter so many times, searched for so many of it and then another string: the place from which
 /// the search begins, and the place found.
-const LONG_PLACES: [(u64, &str, i64, u32); 5] = [
+static LONG_PLACES: [(u64, &str, i64, u32); 5] = [
     (32_767, "b", 1, 0),
     (32_767, "", 32_769, 32_769),
     (32_767, "", 32_770, 0),
@@ -142,41 +143,58 @@ fn string(alloc: Global, text: &str) -> Result<StrVal, TextFault> {
     StrVal::of(alloc, text.as_bytes())
 }
 
-fn part_is(alloc: Global, text: &str, m: i64, n: i64, wanted: &str) -> Result<bool, TextFault> {
-    let whole = string(alloc, text)?;
-    let found = whole.part(alloc, m, n)?;
-    Ok(found.bytes() == wanted.as_bytes())
+fn is(found: Option<StrVal>, wanted: &str) -> bool {
+    match found {
+        Some(text) => text.bytes() == wanted.as_bytes(),
+        None => false,
+    }
 }
 
-fn place_of(alloc: Global, text: &StrVal, looked_for: &str, from: i64) -> Result<u32, TextFault> {
-    let b = string(alloc, looked_for)?;
-    Ok(text.position(&b, from))
+fn part_is(alloc: Global, text: &str, m: i64, n: i64, wanted: &str) -> bool {
+    match string(alloc, text) {
+        Ok(whole) => is(whole.part(alloc, m, n).ok(), wanted),
+        Err(_) => false,
+    }
 }
 
-fn order_of(alloc: Global, a: &str, b: &str) -> Result<Ordering, TextFault> {
-    let first = string(alloc, a)?;
-    let second = string(alloc, b)?;
-    Ok(first.compare(&second))
+fn place_of(alloc: Global, text: &str, looked_for: &str, from: i64) -> Option<u32> {
+    let a = string(alloc, text).ok()?;
+    let b = string(alloc, looked_for).ok()?;
+    Some(a.position(&b, from))
 }
 
-fn upper_is(alloc: Global, text: &StrVal, wanted: &str) -> Result<bool, TextFault> {
-    let found = text.upper(alloc)?;
-    Ok(found.bytes() == wanted.as_bytes())
+fn order_of(alloc: Global, a: &str, b: &str) -> Option<Ordering> {
+    let first = string(alloc, a).ok()?;
+    let second = string(alloc, b).ok()?;
+    Some(first.compare(&second))
 }
 
-fn lower_is(alloc: Global, text: &StrVal, wanted: &str) -> Result<bool, TextFault> {
-    let found = text.lower(alloc)?;
-    Ok(found.bytes() == wanted.as_bytes())
+fn upper_is(alloc: Global, text: &str, wanted: &str) -> bool {
+    match string(alloc, text) {
+        Ok(whole) => is(whole.upper(alloc).ok(), wanted),
+        Err(_) => false,
+    }
 }
 
-fn left_is(alloc: Global, text: &StrVal, wanted: &str) -> Result<bool, TextFault> {
-    let found = text.trim_left(alloc)?;
-    Ok(found.bytes() == wanted.as_bytes())
+fn lower_is(alloc: Global, text: &str, wanted: &str) -> bool {
+    match string(alloc, text) {
+        Ok(whole) => is(whole.lower(alloc).ok(), wanted),
+        Err(_) => false,
+    }
 }
 
-fn right_is(alloc: Global, text: &StrVal, wanted: &str) -> Result<bool, TextFault> {
-    let found = text.trim_right(alloc)?;
-    Ok(found.bytes() == wanted.as_bytes())
+fn left_is(alloc: Global, text: &str, wanted: &str) -> bool {
+    match string(alloc, text) {
+        Ok(whole) => is(whole.trim_left(alloc).ok(), wanted),
+        Err(_) => false,
+    }
+}
+
+fn right_is(alloc: Global, text: &str, wanted: &str) -> bool {
+    match string(alloc, text) {
+        Ok(whole) => is(whole.trim_right(alloc).ok(), wanted),
+        Err(_) => false,
+    }
 }
 
 fn times(alloc: Global, text: &str, n: u64) -> Result<StrVal, TextFault> {
@@ -190,89 +208,82 @@ fn whole(alloc: Global, a: &str, m: u64, b: &str, n: u64) -> Result<StrVal, Text
     first.join(alloc, &second)
 }
 
-fn length_of(made: Result<StrVal, TextFault>) -> Result<Option<usize>, TextFault> {
+// Whether a string is so long, or, where that is None, was too long to be made.
+fn is_of_length(made: Result<StrVal, TextFault>, wanted: Option<usize>) -> bool {
     match made {
-        Ok(text) => Ok(Some(text.bytes().len())),
-        Err(TextFault::TooLong) => Ok(None),
-        Err(TextFault::Memory) => Err(TextFault::Memory),
+        Ok(text) => wanted == Some(text.bytes().len()),
+        Err(TextFault::TooLong) => wanted.is_none(),
+        Err(TextFault::Memory) => false,
     }
 }
 
-fn joined_is(alloc: Global, a: &str, b: &str, wanted: &str) -> Result<bool, TextFault> {
-    let found = whole(alloc, a, 2, b, 1)?;
-    Ok(found.bytes() == wanted.as_bytes())
+// The place of so many letters and then another string in the longest string of that letter.
+fn long_place_of(alloc: Global, count: u64, last: &str, from: i64) -> Option<u32> {
+    let text = times(alloc, "a", 65_535).ok()?;
+    let b = whole(alloc, "a", count, last, 1).ok()?;
+    Some(text.position(&b, from))
 }
 
 #[test]
-fn parts_are_cut(rt: HostRuntime) -> Result<(), Fail> {
-    for (text, m, n, wanted) in PARTS {
-        let found = part_is(rt.alloc(), text, m, n, wanted)?;
+fn parts_are_cut(rt: HostRuntime) {
+    for (text, m, n, wanted) in &PARTS {
+        let found = part_is(rt.alloc(), text, *m, *n, wanted);
         assert!(rt; found, "{text} {m} {n}");
     }
-    Ok(())
 }
 
 #[test]
-fn places_are_found(rt: HostRuntime) -> Result<(), Fail> {
-    for (text, looked_for, from, wanted) in PLACES {
-        let text = string(rt.alloc(), text)?;
-        let found = place_of(rt.alloc(), &text, looked_for, from)?;
-        assert!(rt; found == wanted, "{looked_for} {from} {found}");
+fn places_are_found(rt: HostRuntime) {
+    for (text, looked_for, from, wanted) in &PLACES {
+        let found = place_of(rt.alloc(), text, looked_for, *from);
+        assert!(rt; found == Some(*wanted), "{text} {looked_for} {from}");
     }
-    Ok(())
 }
 
 #[test]
-fn long_strings_are_searched(rt: HostRuntime) -> Result<(), Fail> {
-    let text = times(rt.alloc(), "a", 65_535)?;
-    for (count, last, from, wanted) in LONG_PLACES {
-        let b = whole(rt.alloc(), "a", count, last, 1)?;
-        let found = text.position(&b, from);
-        assert!(rt; found == wanted, "{count} {from} {found}");
+fn long_strings_are_searched(rt: HostRuntime) {
+    for (count, last, from, wanted) in &LONG_PLACES {
+        let found = long_place_of(rt.alloc(), *count, last, *from);
+        assert!(rt; found == Some(*wanted), "{count} {from}");
     }
-    Ok(())
+}
+
+// Ends the test where the string does not stand to each as its place stands to theirs.
+fn check_order(rt: &impl Abort, alloc: Global, i: usize, a: &str) {
+    for (j, b) in RISING.iter().enumerate() {
+        let found = order_of(alloc, a, b);
+        assert!(rt; found == Some(i.cmp(&j)), "{a} {b}");
+    }
 }
 
 #[test]
-fn strings_are_in_order(rt: HostRuntime) -> Result<(), Fail> {
+fn strings_are_in_order(rt: HostRuntime) {
     for (i, a) in RISING.iter().enumerate() {
-        for (j, b) in RISING.iter().enumerate() {
-            let found = order_of(rt.alloc(), a, b)?;
-            assert!(rt; found == i.cmp(&j), "{a} {b}");
-        }
+        check_order(&rt, rt.alloc(), i, a);
     }
-    Ok(())
 }
 
 #[test]
-fn letters_change_case(rt: HostRuntime) -> Result<(), Fail> {
-    for (text, capitals, small) in LETTERS {
-        let text = string(rt.alloc(), text)?;
-        let upper = upper_is(rt.alloc(), &text, capitals)?;
-        let lower = lower_is(rt.alloc(), &text, small)?;
-        assert!(rt; upper && lower, "{capitals}");
+fn letters_change_case(rt: HostRuntime) {
+    for (text, capitals, small) in &LETTERS {
+        check(&rt, text, upper_is(rt.alloc(), text, capitals));
+        check(&rt, text, lower_is(rt.alloc(), text, small));
     }
-    Ok(())
 }
 
 #[test]
-fn spaces_are_trimmed(rt: HostRuntime) -> Result<(), Fail> {
-    for (text, front, end) in TRIMS {
-        let text = string(rt.alloc(), text)?;
-        let left = left_is(rt.alloc(), &text, front)?;
-        let right = right_is(rt.alloc(), &text, end)?;
-        assert!(rt; left && right, "{front}");
+fn spaces_are_trimmed(rt: HostRuntime) {
+    for (text, front, end) in &TRIMS {
+        check(&rt, text, left_is(rt.alloc(), text, front));
+        check(&rt, text, right_is(rt.alloc(), text, end));
     }
-    Ok(())
 }
 
 #[test]
-fn joined_and_repeated_strings_end_at_their_longest(rt: HostRuntime) -> Result<(), Fail> {
-    for (a, m, b, n, wanted) in LENGTHS {
-        let found = length_of(whole(rt.alloc(), a, m, b, n))?;
-        assert!(rt; found == wanted, "{a} {m} {b} {n}");
+fn joined_and_repeated_strings_end_at_their_longest(rt: HostRuntime) {
+    for (a, m, b, n, wanted) in &LENGTHS {
+        let is_right = is_of_length(whole(rt.alloc(), a, *m, b, *n), *wanted);
+        assert!(rt; is_right, "{a} {m} {b} {n}");
     }
-    let joined = joined_is(rt.alloc(), "ab", "c", "ababc")?;
-    assert!(rt; joined);
-    Ok(())
+    assert!(rt; is(whole(rt.alloc(), "ab", 2, "c", 1).ok(), "ababc"));
 }
