@@ -6,8 +6,8 @@
 # It prints one line for each file, as sources.sh does: its bytes, its lines, and the milliseconds of
 # `fullbasic go FILE --lines 0`. Such a run reads the file, looks up what each name of it stands for,
 # tests the rules at each line, makes the program's body and ends at the first line. The first row is a
-# file of two lines. Every second line is a LET with three names, of 4,000 in all where there are enough
-# lines; the others are remarks.
+# file of two lines. Every third line is a LET of 6 instructions with three names, of 4,000 in all where
+# there are enough lines; the others are remarks.
 . "$(dirname "$0")/runs"
 
 # A file of so many lines, the last of which is END.
@@ -15,7 +15,7 @@ make_file() { # lines
     awk -v lines="$1" 'BEGIN {
         for (line = 1; line < lines; line++) {
             name = line % 4000
-            statement = line % 2 ? "REM a line of a ledger" : "LET V" name " = V" (name * 7 % 4000) " + V" (name * 11 % 4000)
+            statement = line % 3 ? "REM a line of a ledger" : "LET V" name " = V" (name * 7 % 4000) " + V" (name * 11 % 4000)
             printf "%05d %s\n", line, statement
         }
         printf "%05d END\n", lines
